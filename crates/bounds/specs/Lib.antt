@@ -1,0 +1,15 @@
+pub mod Answers
+pub mod Held
+pub mod Sizes
+pub mod Names
+pub mod Numbers
+pub mod Ranges
+pub mod Cuts
+pub mod Sound
+pub mod Whole
+pub mod Runs
+pub mod Lists
+pub mod Exprs
+pub mod Stmts
+pub mod Contracts
+pub mod Programs

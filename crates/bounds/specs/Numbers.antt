@@ -1,0 +1,74 @@
+-- Which words have a number, and that such a word is read back from it.
+-- Assumes nothing.
+use mathlib.Core.Path.{_≡_, refl, ap, ap₂, _∙_}
+use mathlib.Core.Bool.{Bool, cond}
+use mathlib.Core.List.{List, [], _∷_, map}
+use Prim.Native.Nat.{ℕ, suc, _-_, _%_, _^_, _≤_, _<_}
+use native.Mathlib.Omega.{arith}
+use borrow.Author.Tests.{lt-ltb, le-ltb}
+use lib.IntN as int
+use Rattle.isa.specs.declared.Encoded.the-variants as answer
+use Rattle.isa.specs.Word.{encodeOf, wordOf}
+use Rattle.isa.specs.Laws.{decode-encode, number-below}
+use Rattle.isa.specs.Laws as laws
+use Rattle.isa.specs.Signed.{signedOf}
+use Rattle.rules.specs.Machine.{Imm, Word, At, bitsOf, instructionOf, numberOf, immOf, wordIn, read}
+
+-- 003: imm is an i32; less than nothing by a number is at least by one.
+abbrev pub In-32 : Imm → Type 0
+In-32 (Imm.pos n) = n < 2147483648
+In-32 (Imm.neg n) = (1 ≤ n) × (n ≤ 2147483648)
+
+-- A word with a number: registers to 31, a distance of 32 bits.
+pub record Encodable (w : Word) : Type 0 where
+  pub rd : w .rd ≤ 31
+  pub rs1 : w .rs1 ≤ 31
+  pub rs2 : w .rs2 ≤ 31
+  pub imm : In-32 (w .imm)
+
+-- Its imm's bits are below 2^32.
+pub bits-below : (d : Imm) → In-32 d → bitsOf d < 4294967296
+unfolding bitsOf
+bits-below (Imm.pos n) h = omega arith
+bits-below (Imm.neg n) h = omega arith
+
+-- The bits read as signed are the imm.
+signed-bits : (d : Imm) → In-32 d → immOf (signedOf (bitsOf d)) ≡ d
+unfolding signedOf bitsOf immOf
+signed-bits (Imm.pos n) h = ap (λ (b : Bool). immOf (cond b (int.pos n) (int.negsuc (4294967296 - suc n)))) (lt-ltb n 2147483648 h)
+signed-bits (Imm.neg n) h =
+    ap (λ (b : Bool). immOf (cond b (int.pos (4294967296 - n)) (int.negsuc (4294967296 - suc (4294967296 - n))))) (le-ltb (4294967296 - n) 2147483648 (omega arith))
+    ∙ ap Imm.neg (omega arith)
+
+-- Encoding gives its number.
+pub encoded : (w : Word) → Encodable w → encodeOf (instructionOf w) ≡ answer.Word (numberOf w)
+unfolding instructionOf numberOf
+encoded w h = laws.encoded (instructionOf w) (omega (arith, h .rd)) (omega (arith, h .rs1)) (omega (arith, h .rs2))
+
+-- So it does of the fields cut to the widths of 003: 8 bits a register, 32 bits the imm.
+pub encoded-cut : (w : Word) → Encodable w
+    → encodeOf (record { opcode = w .op; rd = w .rd % 256; rs1 = w .rs1 % 256; rs2 = w .rs2 % 256; imm = bitsOf (w .imm) % 4294967296 }) ≡ answer.Word (numberOf w)
+unfolding instructionOf
+encoded-cut w h =
+    let a : w .rd % 256 ≡ w .rd = omega (arith, h .rd) in
+    let b : w .rs1 % 256 ≡ w .rs1 = omega (arith, h .rs1) in
+    let c : w .rs2 % 256 ≡ w .rs2 = omega (arith, h .rs2) in
+    let d : bitsOf (w .imm) % 4294967296 ≡ bitsOf (w .imm) = omega (arith, bits-below (w .imm) (h .imm)) in
+    ap encodeOf (λ i. record { opcode = w .op; rd = a i; rs1 = b i; rs2 = c i; imm = d i }) ∙ encoded w h
+
+-- The number is below 2^55.
+pub number-small : (w : Word) → Encodable w → numberOf w < 2 ^ 55
+unfolding instructionOf numberOf wordOf
+number-small w h = omega (arith, number-below (w .op), bits-below (w .imm) (h .imm), h .rd, h .rs1, h .rs2)
+
+-- The word is read back from its number.
+pub read-back : (w : Word) → Encodable w → read (numberOf w) ≡ w
+unfolding read wordIn instructionOf
+read-back w h =
+    ap wordIn (decode-encode (instructionOf w) (numberOf w) (bits-below (w .imm) (h .imm)) (encoded w h))
+    ∙ (λ i. record { op = w .op; rd = w .rd; rs1 = w .rs1; rs2 = w .rs2; imm = signed-bits (w .imm) (h .imm) i })
+
+-- Each word of a list, likewise.
+pub all-read-back : (l : List Word) → ((i : ℕ) (w : Word) → At l i w → Encodable w) → map read (map numberOf l) ≡ l
+all-read-back [] h = refl
+all-read-back (w ∷ l) h = ap₂ (λ (x : Word) (y : List Word). x ∷ y) (read-back w (h 0 w refl)) (all-read-back l (λ i v a. h (suc i) v a))

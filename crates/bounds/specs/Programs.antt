@@ -1,0 +1,80 @@
+-- What is known of every program that an image comes to: it is short, and each word of it has a number.
+-- Assumes nothing.
+use mathlib.Core.Path.{_≡_, refl, sym, subst}
+use mathlib.Core.List.{List, map}
+use Prim.Native.Nat.{ℕ, _+_, _≤_, _<_}
+use native.Mathlib.Omega.{arith}
+use lib.ListN.{length}
+use Rattle.rules.specs.declared.Seen.{Seen}
+use Rattle.rules.specs.declared.Seen.the-variants.{Sound, Fault}
+use Rattle.rules.specs.Bytes.{Name}
+use Rattle.rules.specs.Tree.{Contract}
+use Rattle.rules.specs.Read.{contractAt}
+use Rattle.rules.specs.Refusal.{Refusal, ok, _>>=_}
+use Rattle.rules.specs.Analyse.{analyse}
+use Rattle.rules.specs.Ambiguous.{firstAmbiguous}
+use Rattle.rules.specs.Check.{checkOf}
+use Rattle.rules.specs.Machine.{Word, Entry, At, read}
+use Rattle.rules.specs.Layout.{offset}
+use Rattle.rules.specs.Emit.{Rules}
+use Rattle.rules.specs.Link.{Built, Program, functions, generate}
+use Rattle.rules.specs.Build.{rules, passed, clear, analysed, program, wordsOf}
+use Rattle.bounds.specs.Answers.{All, from-ok, all-ok, all-bad, all-bind, all-next, all-map}
+use Rattle.bounds.specs.Held.{Each}
+use Rattle.bounds.specs.Numbers.{Encodable, all-read-back}
+use Rattle.bounds.specs.Ranges.{Ranged, firsts-up, functions-fine, program-fine}
+use Rattle.bounds.specs.Cuts.{cut, offset-small}
+use Rattle.bounds.specs.Contracts.{nodes-few}
+
+-- What is known of a program.
+pub record Bounded (P : Program) : Type 0 where
+  pub short : length (P .words) < 1048576
+  pub encodable : (i : ℕ) (w : Word) → At (P .words) i w → Encodable w
+  pub read-back : map read (wordsOf P) ≡ P .words
+
+-- 000: FieldAccess: an offset is small.
+offset-below : (img : List ℕ) (p : ℕ) (x : Name) → offset (contractAt img) p x ≤ 512
+offset-below img p x = omega (arith, offset-small (contractAt img) (cut img .fields) p x)
+
+-- The functions of a checked image, their calls still open: few words, and each has a number.
+pub record Short (i : ℕ) (b : Built) : Type 0 where
+  pub few : length (b .code) ≤ 709930
+  pub ranged : Ranged (b .code)
+  pub firsts : Each (λ (e : Entry). e .first ≤ i + 709930) (b .table)
+
+-- As a caller meets it: their first word has index i.
+pub built : (R : Rules) → R .free ≤ 30 → (img : List ℕ) (q m : ℕ) → checkOf img ≡ Sound q m → (i : ℕ)
+    → All (λ (b : Built). Short i b) (functions R (contractAt img) i (contractAt img .functions))
+built R h img q m e i =
+    let z = nodes-few img q m e in
+    all-map (functions-fine R (contractAt img) h (cut img .storage) (offset-below img) i (contractAt img .functions) (omega (arith, z)))
+    (λ b g. record { few = omega (arith, z, g .0); ranged = g .1; firsts = firsts-up _ _ (omega (arith, z)) (b .table) (g .2) })
+
+-- The program that the tree of a checked image comes to, whatever the rules.
+pub generated : (R : Rules) → R .free ≤ 30 → (img : List ℕ) (q m : ℕ) → checkOf img ≡ Sound q m → All (λ (P : Program). Bounded P) (generate R (contractAt img))
+unfolding wordsOf
+generated R h img q m e =
+    let z = nodes-few img q m e in
+    all-map (program-fine R (contractAt img) h (cut img .storage) (offset-below img) (omega (arith, z)))
+    (λ P g. record { short = omega (arith, z, g .long); encodable = g .encodable; read-back = all-read-back (P .words) (g .encodable) })
+
+-- An image that is passed was checked.
+passed-is : (s : Seen) → All (λ (u : Unit {0}). (q : ℕ) × (m : ℕ) × (s ≡ Sound q m)) (passed s)
+unfolding passed
+passed-is (Sound q m) = all-ok tt (q, m, refl)
+passed-is (Fault n p) = all-bad (Refusal.fault n p)
+
+-- An analysed contract is that of a checked image.
+pub analysed-is : (img : List ℕ) → All (λ (C : Contract). (C ≡ contractAt img) × (q : ℕ) × (m : ℕ) × (checkOf img ≡ Sound q m)) (analysed img)
+unfolding analysed
+analysed-is img =
+    all-bind (passed (checkOf img)) _ (passed-is (checkOf img)) (λ u c.
+    all-next (analyse (contractAt img)) _ (λ a. all-ok (contractAt img) (refl, c .0, c .1, c .2)))
+
+-- Every program that an image comes to.
+pub program-bounded : (img : List ℕ) (P : Program) → program img ≡ ok P → Bounded P
+unfolding program rules
+program-bounded img P e = from-ok (subst (All (λ (P : Program). Bounded P)) e
+    (all-bind (analysed img) _ (analysed-is img) (λ C c.
+    all-next (clear (firstAmbiguous C)) _ (λ u.
+    subst (λ (D : Contract). All (λ (P : Program). Bounded P) (generate rules D)) (sym (c .0)) (generated rules (omega arith) img (c .1) (c .2) (c .3))))))

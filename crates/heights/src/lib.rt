@@ -1,0 +1,1 @@
+// Nothing to run: the crate is its specs/, laws over the definitions of `rules`.

@@ -1,0 +1,215 @@
+// Readings of an image's records, all total: past the image's end a byte is 0, a place is the end, a name is empty.
+ghost use mathlib.Core.Path.{_≡_};
+ghost use Prim.Native.Nat.{_+_, _≤_, _<_};
+ghost use lib.ListN.{length};
+ghost use Rattle.rules.specs.Bytes.{byteAt, le32, le64, kindAt, inside, after, intAt, opAt, nameAt, eqName};
+ghost use Rattle.records.specs.Keys.{keyOf};
+
+// The byte at i.
+pub fn byte(img: &[u8], i: usize) -> u64
+    ensures { λ r. ⌜ (r ≡ byteAt (now (img .entry)) i) × (r < 256) ⌝ }
+{
+    if i < img.len() { img[i] as u64 } else { 0 }
+}
+
+// A byte as a number of 64 bits.
+fn wide(x: u8) -> u64
+    ensures { λ r. ⌜ (r ≡ x) × (r < 256) ⌝ }
+{
+    x as u64
+}
+
+// Four bytes that are there: one load.
+fn word_in(img: &[u8], i: usize) -> u64
+    requires { ⌜ i + 4 ≤ length (now img) ⌝ }
+    ensures { λ r. ⌜ (r ≡ le32 (now (img .entry)) i) × (r < 4294967296) ⌝ }
+{
+    wide(img[i]) + 256 * wide(img[i + 1]) + 65536 * wide(img[i + 2]) + 16777216 * wide(img[i + 3])
+}
+
+// Eight.
+fn eight_in(img: &[u8], i: usize) -> u64
+    requires { ⌜ i + 8 ≤ length (now img) ⌝ }
+    ensures { λ r. ⌜ r ≡ le64 (now (img .entry)) i ⌝ }
+{
+    word_in(img, i) + 4294967296 * word_in(img, i + 4)
+}
+
+// The four bytes from i on, the lowest first.
+pub fn word32(img: &[u8], i: usize) -> u64
+    ensures { λ r. ⌜ (r ≡ le32 (now (img .entry)) i) × (r < 4294967296) ⌝ }
+{
+    if img.len() <= i {
+        return 0;
+    }
+    if 4 <= img.len() - i {
+        return word_in(img, i);
+    }
+    let a = byte(img, i);
+    let b = byte(img, i + 1);
+    let c = byte(img, i + 2);
+    let d = byte(img, i + 3);
+    a + 256 * b + 65536 * c + 16777216 * d
+}
+
+// The kind of the record at i (01: a record's bytes 4 and 5).
+pub fn kind(img: &[u8], i: usize) -> u64
+    ensures { λ r. ⌜ (r ≡ kindAt (now (img .entry)) i) × (r < 65536) ⌝ }
+{
+    if img.len() <= i {
+        return 0;
+    }
+    if 6 <= img.len() - i {
+        return wide(img[i + 4]) + 256 * wide(img[i + 5]);
+    }
+    let a = byte(img, i + 4);
+    let b = byte(img, i + 5);
+    a + 256 * b
+}
+
+// Where the payload of the record at i starts.
+pub fn body(img: &[u8], i: usize) -> usize
+    ensures { λ r. ⌜ (r ≡ inside (now (img .entry)) i) × (r ≤ length (now (img .entry))) ⌝ }
+{
+    if img.len() <= i {
+        return img.len();
+    }
+    let e = i + 6;
+    if e < img.len() { e } else { img.len() }
+}
+
+// The place past the record at i.
+pub fn past(img: &[u8], i: usize) -> usize
+    ensures { λ r. ⌜ (r ≡ after (now (img .entry)) i) × (r ≤ length (now (img .entry))) ⌝ }
+{
+    if img.len() <= i {
+        return img.len();
+    }
+    let n = word32(img, i) as usize;
+    let e = i + 4 + n;
+    if e < img.len() { e } else { img.len() }
+}
+
+// The number of the Int at i.
+pub fn int(img: &[u8], i: usize) -> u64
+    ensures { λ r. ⌜ r ≡ intAt (now (img .entry)) i ⌝ }
+{
+    let p = body(img, i);
+    let low = word32(img, p);
+    let high = word32(img, p + 4);
+    low + 4294967296 * high
+}
+
+// The byte of the Op or Flag at i.
+pub fn op(img: &[u8], i: usize) -> u64
+    ensures { λ r. ⌜ (r ≡ opAt (now (img .entry)) i) × (r < 256) ⌝ }
+{
+    byte(img, body(img, i))
+}
+
+// The bytes of the Name at i.
+pub fn name(img: &[u8], i: usize) -> &[u8]
+    ensures { λ r. ⌜ now r ≡ nameAt (now (img .entry)) i ⌝ }
+{
+    let a = body(img, i);
+    let e = past(img, i);
+    if a <= e { &img[a..e] } else { &img[a..a] }
+}
+
+// Names of eight bytes and more: the last eight first, where names of one length differ most often.
+fn same_long(a: &[u8], b: &[u8]) -> bool
+    requires { ⌜ (8 ≤ length (now a)) × (length (now a) ≡ length (now b)) ⌝ }
+    ensures { λ r. ⌜ r ≡ eqName (now (a .entry)) (now (b .entry)) ⌝ }
+{
+    let n = a.len();
+    if eight_in(a, n - 8) != eight_in(b, n - 8) {
+        return false;
+    }
+    let mut i = 0;
+    while 8 < n - i {
+        if eight_in(a, i) != eight_in(b, i) {
+            return false;
+        }
+        i += 8;
+    }
+    true
+}
+
+// Names of four to seven bytes: the last four and the first four overlap.
+fn same_four(a: &[u8], b: &[u8]) -> bool
+    requires { ⌜ (4 ≤ length (now a)) × ((length (now a) < 8) × (length (now a) ≡ length (now b))) ⌝ }
+    ensures { λ r. ⌜ r ≡ eqName (now (a .entry)) (now (b .entry)) ⌝ }
+{
+    let n = a.len();
+    if word_in(a, n - 4) != word_in(b, n - 4) {
+        return false;
+    }
+    if word_in(a, 0) != word_in(b, 0) {
+        return false;
+    }
+    true
+}
+
+// Shorter ones.
+fn same_few(a: &[u8], b: &[u8]) -> bool
+    requires { ⌜ length (now a) ≡ length (now b) ⌝ }
+    ensures { λ r. ⌜ r ≡ eqName (now (a .entry)) (now (b .entry)) ⌝ }
+{
+    let mut i = 0;
+    while i < a.len() {
+        if a[i] != b[i] {
+            return false;
+        }
+        i += 1;
+    }
+    true
+}
+
+// Whether two byte strings are the same.
+pub fn same(a: &[u8], b: &[u8]) -> bool
+    ensures { λ r. ⌜ r ≡ eqName (now (a .entry)) (now (b .entry)) ⌝ }
+{
+    if a.len() != b.len() {
+        return false;
+    }
+    if 8 <= a.len() {
+        return same_long(a, b);
+    }
+    if 4 <= a.len() {
+        return same_four(a, b);
+    }
+    same_few(a, b)
+}
+
+// Whether the Names at i and j are the same.
+pub fn same_name(img: &[u8], i: usize, j: usize) -> bool
+    ensures { λ r. ⌜ r ≡ eqName (nameAt (now (img .entry)) i) (nameAt (now (img .entry)) j) ⌝ }
+{
+    same(name(img, i), name(img, j))
+}
+
+// Whether the Name at i is x.
+pub fn is_name(img: &[u8], i: usize, x: &[u8]) -> bool
+    ensures { λ r. ⌜ r ≡ eqName (nameAt (now (img .entry)) i) (now (x .entry)) ⌝ }
+{
+    same(name(img, i), x)
+}
+
+// A number that tells most byte strings apart: the first four bytes and the last four.
+pub fn key(x: &[u8]) -> usize
+    ensures { λ r. ⌜ r ≡ keyOf (now (x .entry)) ⌝ }
+{
+    let n = x.len();
+    if n < 4 {
+        let few = word32(x, 0) as usize;
+        return few + 4294967296 * few;
+    }
+    word_in(x, 0) as usize + 4294967296 * (word_in(x, n - 4) as usize)
+}
+
+// The key of the Name at i.
+pub fn name_key(img: &[u8], i: usize) -> usize
+    ensures { λ r. ⌜ r ≡ keyOf (nameAt (now (img .entry)) i) ⌝ }
+{
+    key(name(img, i))
+}
