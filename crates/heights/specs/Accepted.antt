@@ -1,6 +1,6 @@
 -- A refusal has a number: nothing but acceptance answers 0. And what acceptance says of the room.
 -- Assumes nothing.
-use mathlib.Core.Path.{_≡_, refl, sym, ap, subst, _∙_}
+use mathlib.Core.Path.{_≡_, refl}
 use mathlib.Core.Option.{Option, none, some}
 use mathlib.Core.List.{List, [], _∷_}
 use Prim.Native.Nat.{ℕ, _/_, _≤_}
@@ -24,6 +24,7 @@ use Rattle.heights.specs.Told.{Told, told-ok, told-bad, told-bind, told-
 
 -- Generation.
 module _ (R : Rules) (C : Contract) where
+  -- Registers run out with a number.
   alloc-told : (p n : ℕ) → Told (alloc-reg R C p n)
   unfolding alloc-reg numberOf refused
   alloc-told p n = told-pick _ _ _ (told-ok n) (told-bad _ (omega arith))
@@ -36,6 +37,7 @@ module _ (R : Rules) (C : Contract) where
   unfolding result
   result-told p n l r = told-pick _ _ _ (told-ok _) (told-pick _ _ _ (told-ok _) (alloc-told p _))
 
+  -- A call, after its arguments.
   apply-told : (p : ℕ) (f : Name) (n : ℕ) (a : Values) (b : Option Builtin) → Told (apply R C p f n a b)
   unfolding apply
   apply-told p f n a (some Builtin.poseidon) = told-bind _ _ (result-told p n _ _) (λ d. told-ok _)
@@ -45,6 +47,7 @@ module _ (R : Rules) (C : Contract) where
   apply-told p f n a (some Builtin.merkle) = told-bind _ _ (alloc-told p _) (λ d. told-ok _)
   apply-told p f n a none = told-bind _ _ (alloc-told p n) (λ d. told-ok _)
 
+  -- A number.
   number-told : (p v n : ℕ) → Told (number R C p v n)
   unfolding number
   number-told p v n = told-pick _ _ _ (told-bind _ _ (alloc-told p n) (λ r. told-ok _))
@@ -113,6 +116,7 @@ module _ (R : Rules) (C : Contract) where
   allocs-told p [] n = told-ok _
   allocs-told p (x ∷ xs) n = told-bind _ _ (alloc-told p n) (λ r. told-bind _ _ (allocs-told p xs _) (λ rs. told-ok _))
 
+  -- Functions, and all of them.
   function-told : (f : Function) → Told (function R C f)
   unfolding function
   function-told f =
@@ -132,6 +136,7 @@ module _ (R : Rules) (C : Contract) where
       with none h = told-bad Refusal.no-main (omega arith)
       with (some f) h = h
 
+-- Row 30.
 clear-told : (o : Option ℕ) → Told (clear o)
 unfolding clear numberOf refused
 clear-told none = told-ok _
@@ -151,10 +156,12 @@ pub record Fitting (img : List ℕ) (n t : ℕ) (P : Program) : Type 0 where
   pub words : length (P .words) ≤ n
   pub table : length (P .table) ≤ t / 3
 
+-- An answer is what it is.
 all-self : {A : Type 0} (m : Res A) → All (λ (a : A). m ≡ ok a) m
 all-self (ok a) = all-ok a refl
 all-self (bad r) = all-bad r
 
+-- A program that is answered fits.
 pub outcome-fits : (img : List ℕ) (n t : ℕ) → All (Fitting img n t) (outcome img n t)
 unfolding outcome fits listed
 outcome-fits img n t =

@@ -1,9 +1,9 @@
 -- A map of heights that is right at each word gives the law for every path. It knows nothing of a generator.
 -- Assumes nothing.
-use mathlib.Core.Path.{_≡_, refl, sym, subst, subst₂, _∙_}
+use mathlib.Core.Path.{_≡_, refl, sym, subst, subst₂}
 use mathlib.Core.Logic.{_⊎_, inl, inr, ⊎-map}
-use mathlib.Core.List.{List, [], _∷_}
-use Prim.Native.Nat.{ℕ, zero, suc, _+_, _-_, _≤_, _<_}
+use mathlib.Core.List.{List}
+use Prim.Native.Nat.{ℕ, suc, _+_, _-_, _≤_, _<_}
 use native.Mathlib.Omega.{arith}
 use Rattle.isa.specs.declared.Opcode.{Opcode}
 use Rattle.isa.specs.declared.Opcode.the-variants as op
@@ -31,14 +31,16 @@ pub record Certified (C : List Word) (T : List Entry) (f : Entry) (H : ℕ → �
   pub right : (i x : ℕ) → H i x → (w : Word) × At C i w × Right T H i x (w .imm) (kind (w .op))
 
 module _ (T : List Entry) (apart : Apart T) (H : ℕ → ℕ → Type 0) where
+  -- A height of the map, under other names of its index and height.
   at : {a b x y : ℕ} → H a x → b ≡ a → y ≡ x → H b y
   at h p q = subst₂ H (sym p) (sym q) h
 
-  -- the certificate's call and the path's are of one function
+  -- The certificate's call and the path's are of one function.
   same-call : (i x : ℕ) (d : Imm) (r : Right T H i x d Kind.calls) (e t : ℕ) → Lands i d e → Starts T e t → r .1 ≡ t
   unfolding Apart
   same-call i x d r e t l s = apart e (r .1) t (subst (λ (a : ℕ). Starts T a (r .1)) (lands-one i d (r .0) e (r .3) l) (r .4)) s
 
+  -- Where the path goes on, the map has it.
   goes : (i x : ℕ) (d : Imm) (y : Way) (k : Kind) → Right T H i x d k → (t g j : ℕ) → Moves T i d y k t g j
       → (rest : ℕ) → t + rest ≡ x → H j (rest + g)
   goes i x d y Kind.plain r t g j m rest e = at r (m .2) (omega arith)
@@ -51,6 +53,7 @@ module _ (T : List Entry) (apart : Apart T) (H : ℕ → ℕ → Type 0) where
   goes i x d y Kind.ends r t g j m rest e = absurd m
   goes i x d y Kind.stuck r t g j m rest e = absurd m
 
+  -- What a word takes is there.
   takes : (i x : ℕ) (d : Imm) (y : Way) (k : Kind) → Right T H i x d k → (t g j : ℕ) → Moves T i d y k t g j → t ≤ x
   takes i x d y Kind.plain r t g j m = omega arith
   takes i x d y Kind.pushes r t g j m = omega arith
@@ -62,7 +65,7 @@ module _ (T : List Entry) (apart : Apart T) (H : ℕ → ℕ → Type 0) where
   takes i x d y Kind.ends r t g j m = absurd m
   takes i x d y Kind.stuck r t g j m = absurd m
 
-  -- a word that is right is an end at height two, or moves, whichever way is chosen
+  -- A word that is right is an end at height two, or moves, whichever way is chosen.
   moves : (i x : ℕ) (d : Imm) (y : Way) (k : Kind) → Right T H i x d k
       → ((k ≡ Kind.ends) × (x ≡ 2)) ⊎ ((t : ℕ) × (g : ℕ) × (j : ℕ) × Moves T i d y k t g j)
   moves i x d y Kind.plain r = inr (0, 0, suc i, (refl, refl, refl))
@@ -75,6 +78,7 @@ module _ (T : List Entry) (apart : Apart T) (H : ℕ → ℕ → Type 0) where
   moves i x d y Kind.ends r = inl (refl, r)
   moves i x d y Kind.stuck r = absurd r
 
+-- Only a Ret ends.
 pub only-ret : (o : Opcode) → kind o ≡ Kind.ends → o ≡ op.Ret
 only-ret op.Halt e = cc
 only-ret op.Add e = cc
@@ -109,13 +113,14 @@ only-ret op.Syscall e = cc
 only-ret op.VerifyMerkle e = cc
 
 module _ (C : List Word) (T : List Entry) (apart : Apart T) (f : Entry) (H : ℕ → ℕ → Type 0) (c : Certified C T f H) where
-  -- the word that a path meets is the one that the certificate judged
+  -- The word that a path meets is the one that the certificate judged.
   judged : (i x : ℕ) → H i x → (w : Word) → At C i w → Right T H i x (w .imm) (kind (w .op))
   judged i x h w a = subst (λ (v : Word). Right T H i x (v .imm) (kind (v .op))) (at-one C i (r .0) w (r .1) a) (r .2)
     where
       r : (v : Word) × At C i v × Right T H i x (v .imm) (kind (v .op))
       r = c .right i x h
 
+  -- Every path is on the map.
   on-map : {i h : ℕ} → Path C T f i h → H i h
   on-map start = c .begins
   on-map (step {i} {h} p w a y t g j m rest e) =
@@ -125,6 +130,7 @@ module _ (C : List Word) (T : List Entry) (apart : Apart T) (f : Entry) (H : ℕ
       → (w : Word) × At C i w × (((w .op ≡ op.Ret) × (h ≡ 2)) ⊎ ((t : ℕ) × (g : ℕ) × (j : ℕ) × Moves T i (w .imm) y (kind (w .op)) t g j))
   stops-at i h y (w, a, r) = (w, a, ⊎-map (λ e. (only-ret (w .op) (e .0), e .1)) (λ m. m) (moves T apart H i h (w .imm) y (kind (w .op)) r))
 
+  -- A certificate gives the law.
   pub heights : Heights C T f
   heights = record {
     stays = λ i h p. c .inside i h (on-map p);
@@ -134,8 +140,9 @@ module _ (C : List Word) (T : List Entry) (apart : Apart T) (f : Entry) (H : ℕ
   }
 
 -- The other way round: where the law holds, the heights that paths reach are a certificate. So a checker that looks for
--- a certificate (request P11) refuses nothing that obeys the law.
+-- a certificate refuses nothing that obeys the law.
 module _ (C : List Word) (T : List Entry) (f : Entry) (law : Heights C T f) where
+  -- What a word takes is there, so the path goes on.
   reach : (i h : ℕ) → Path C T f i h → (w : Word) → At C i w → (y : Way) (t g j : ℕ) → Moves T i (w .imm) y (kind (w .op)) t g j
       → (rest : ℕ) × (t + rest ≡ h) × Path C T f j (rest + g)
   reach i h p w a y t g j m =
@@ -145,7 +152,7 @@ module _ (C : List Word) (T : List Entry) (f : Entry) (law : Heights C T f) wher
   to : (i j x y : ℕ) → Path C T f i x → j ≡ i → y ≡ x → Path C T f j y
   to i j x y p q r = subst₂ (Path C T f) (sym q) (sym r) p
 
-  -- what the law says at a word, for one way
+  -- What the law says at a word, for one way.
   Choice : ℕ → ℕ → Word → Way → Type 0
   Choice i h w y = ((w .op ≡ op.Ret) × (h ≡ 2)) ⊎ ((t : ℕ) × (g : ℕ) × (j : ℕ) × Moves T i (w .imm) y (kind (w .op)) t g j)
 
@@ -157,6 +164,7 @@ module _ (C : List Word) (T : List Entry) (f : Entry) (law : Heights C T f) wher
     go : (k : Kind) → kind (w .op) ≡ k → (y : Way) (t g j : ℕ) → Moves T i (w .imm) y k t g j → (rest : ℕ) × (t + rest ≡ h) × Path C T f j (rest + g)
     go k e y t g j m = reach i h p w a y t g j (subst (λ (x : Kind). Moves T i (w .imm) y x t g j) (sym e) m)
 
+    -- Where it goes on both ways, the word is right.
     right-from : (k : Kind) → kind (w .op) ≡ k
         → (t g j : ℕ) → Moves T i (w .imm) Way.pass k t g j → (t g j : ℕ) → Moves T i (w .imm) Way.jump k t g j → Right T (Path C T f) i h (w .imm) k
     right-from Kind.plain e t g j m _ _ _ _ = let (r, q, z) = go Kind.plain e Way.pass t g j m in to j (suc i) (r + g) h z (sym (m .2)) (omega arith)
@@ -180,6 +188,7 @@ module _ (C : List Word) (T : List Entry) (f : Entry) (law : Heights C T f) wher
     by-choice (inr m) (inl (e, q)) = at-ret e q
     by-choice (inr (t, g, j, m)) (inr (t′, g′, j′, m′)) = right-from (kind (w .op)) refl t g j m t′ g′ j′ m′
 
+  -- The law gives a certificate.
   pub certified-by-law : Certified C T f (Path C T f)
   certified-by-law = record {
     inside = law .stays;

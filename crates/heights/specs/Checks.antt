@@ -2,18 +2,18 @@
 -- Assumes nothing.
 use mathlib.Core.Path.{_≡_, refl, sym, ap, subst, _∙_}
 use mathlib.Core.Option.{Option, none, some, Option·some-injective}
-use mathlib.Core.List.{List, [], _∷_, map}
+use mathlib.Core.List.{List, [], _∷_}
 use Prim.Native.Nat.{ℕ, zero, suc}
 use lib.Dec.{eqb}
 use borrow.Author.Tests.{eqb-true}
 use lib.ListN.{length, length-map}
 use Rattle.rules.specs.Bytes.{Name}
 use Rattle.rules.specs.Tables.{orElse, last, mapped}
-use Rattle.rules.specs.Tree.{Expr, Exprs, Inits, Stmt, Stmts, Field, Struct, Function, Contract}
-use Rattle.rules.specs.Types.{Typ, Env, typeNamed}
+use Rattle.rules.specs.Tree.{Expr, Exprs, Inits, Stmt, Stmts, Struct, Function, Contract}
+use Rattle.rules.specs.Types.{Typ, Env}
 use Rattle.rules.specs.Refusal.{Res, ok, bad}
 use Rattle.rules.specs.Builtins.{Builtin, builtin, arity}
-use Rattle.rules.specs.Analyse.{Sig, sig, sigOf, repeated, Arg, Misfit, fits, fitted, applied, functionName, signature, expr, exprs, inits, stmt, stmts, function, functions, analyse}
+use Rattle.rules.specs.Analyse.{sig, sigOf, repeated, Arg, Misfit, fits, fitted, applied, functionName, signature, expr, exprs, inits, stmt, stmts, function, functions, analyse}
 use Rattle.heights.specs.Fits.{size, Passes, Fits, Exprs-fit, Inits-fit, Stmt-fits, Stmts-fit}
 use Rattle.bounds.specs.Answers.{All, all-ok, all-bad, all-bind, all-next, all-test, all-map}
 
@@ -26,6 +26,7 @@ all-some (bad r) f = all-bad r
 abbrev pub Takes : List Function → Name → ℕ → Type 0
 Takes fs x n = (f : Function) × (last functionName x fs ≡ some f) × (length (f .params) ≡ n)
 
+-- A call of a name takes one number.
 pub takes-one : (fs : List Function) (x : Name) (n m : ℕ) → Takes fs x n → Takes fs x m → n ≡ m
 takes-one fs x n m (f, p, q) (g, r, t) = sym q ∙ ap (λ (h : Function). length (h .params)) (Option·some-injective f g (sym p ∙ r)) ∙ t
 
@@ -123,6 +124,7 @@ module _ (C : Contract) where
       stmts-fit Stmts.none Γ = all-ok _ tt
       stmts-fit (Stmts.more x xs) Γ = all-bind (stmt C ret x Γ) _ (stmt-fits x Γ) (λ Δ px. all-map (stmts-fit xs Δ) (λ u pxs. (px, pxs)))
 
+  -- Function by function.
   bodies-fit : (fs : List Function) → All (λ u. Bodies-fit takes fs) (functions C fs)
   unfolding functions function Bodies-fit
   bodies-fit [] = all-ok _ tt

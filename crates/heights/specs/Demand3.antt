@@ -1,16 +1,15 @@
 -- DEMAND 3, to be held against document 01 (Heights) clause by clause. A path, what a word does to the height, and the law are in
--- Machine of crate `rules`; what a step does, row by row of the document, is in Rows.
+-- Machine of crate `rules`; what a step does, row by row of the document, is in Rows. The opening's three words are no function's.
 -- Assumes nothing.
-use mathlib.Core.Path.{_≡_, refl, sym, ap, subst, subst₂, _∙_}
+use mathlib.Core.Path.{_≡_, sym, subst, _∙_}
 use mathlib.Core.Logic.{_⊎_}
-use mathlib.Core.List.{List, [], _∷_, map}
-use Prim.Native.Nat.{ℕ, zero, suc, _+_, _*_, _/_, _≤_, _<_}
-use native.Mathlib.Omega.{arith}
-use lib.ListN.{length, length-map, take}
+use mathlib.Core.List.{List, map}
+use Prim.Native.Nat.{ℕ, _≤_, _<_}
+use lib.ListN.{length}
 use Rattle.rules.specs.Tree.{Function}
 use Rattle.rules.specs.Refusal.{ok}
 use Rattle.rules.specs.Read.{contractAt}
-use Rattle.rules.specs.Machine.{Word, Entry, At, kind, Way, Moves, Path, Heights, read, numberOf, Demand3}
+use Rattle.rules.specs.Machine.{Word, Entry, At, kind, Way, Moves, Path, Heights, read, Demand3}
 use Rattle.rules.specs.Link.{Program}
 use Rattle.rules.specs.Build.{program, wordsOf, buildOf, Demand3Of}
 use Rattle.bounds.specs.Programs.{program-bounded}
@@ -40,6 +39,7 @@ pub record Walked (words : List ℕ) (T : List Entry) (f : Entry) : Type 0 where
   -- this is not said of nothing: some path comes to a Ret
   pub returns : Home (map read words) T f
 
+-- Each clause from the law.
 walked : (words : List ℕ) (T : List Entry) (f : Entry) → Heights (map read words) T f → Home (map read words) T f → Walked words T f
 walked ws T f law home = record {
   one-height = law .one-height;
@@ -59,7 +59,7 @@ each-function img P b k f a =
     (e, at-e, l, n, m, walked (wordsOf P) (P .table) e (demand-3 img P b k e at-e) home)
 
 -- And over what the caller holds: of a build that answers 0, the numbers that stand in the code slice and the entries that stand in
--- the table obey the law,
+-- the table obey the law.
 pub demand-3-lent : (img code table : List ℕ) → buildOf img code table .refusal ≡ 0 → Demand3 (wordsIn img code table) (tableIn img code table)
 unfolding Demand3 Demand3Of
 demand-3-lent img code table z k d a = from (lent img code table z)
@@ -70,7 +70,7 @@ demand-3-lent img code table z k d a = from (lent img code table z)
         subst (λ (ws : List ℕ). Heights (map read ws) (tableIn img code table) d) (sym (l .words))
         (alike-heights (map read (wordsOf (l .P))) (l .P .table) (tableIn img code table) (listed-alike (l .P .table) (tableIn img code table) (l .entries)) e d like (demand-3 img (l .P) (l .is) k e at-e))
 
--- and each function of the contract has its entry there, at its own index, and is so walked.
+-- And each function of the contract has its entry there, at its own index, and is so walked.
 pub each-lent : (img code table : List ℕ) → buildOf img code table .refusal ≡ 0 → (k : ℕ) (f : Function) → At (contractAt img .functions) k f
     → (e : Entry) × At (tableIn img code table) k e × (e .place ≡ f .place) × (e .params ≡ length (f .params)) × Walked (wordsIn img code table) (tableIn img code table) e
 unfolding Demand3

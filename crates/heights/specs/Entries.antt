@@ -12,6 +12,7 @@ unfoldable pub Covers : ℕ → ℕ → List Entry → Type 0
 Covers i n [] = i ≡ n
 Covers i n (e ∷ T) = (e .first ≡ i) × (i < e .past) × Covers (e .past) n T
 
+-- Every function starts from there on.
 low : (i n : ℕ) (T : List Entry) → Covers i n T → (k : ℕ) (e : Entry) → At T k e → i ≤ e .first
 unfolding Covers
 low i n [] c k e p = absurd p
@@ -30,6 +31,7 @@ apart-from i n (x ∷ T) c zero (suc l) d e p q s = absurd (omega (arith, ap (λ
 apart-from i n (x ∷ T) c (suc k) zero d e p q s = absurd (omega (arith, ap (λ (y : Entry). y .first) q, low (x .past) n T (c .2) k d p))
 apart-from i n (x ∷ T) c (suc k) (suc l) d e p q s = apart-from (x .past) n T (c .2) k l d e p q s
 
+-- Functions that stand one behind the other start apart.
 pub apart : (i n : ℕ) (T : List Entry) → Covers i n T → Apart T
 unfolding Apart
 apart i n T c a x y (k, d, p, q, r) (l, e, s, t, u) = sym r ∙ apart-from i n T c k l d e p s (q ∙ sym t) ∙ u
@@ -45,6 +47,7 @@ Alike [] (d ∷ U) = ⊥
 Alike (e ∷ T) [] = ⊥
 Alike (e ∷ T) (d ∷ U) = Like e d × Alike T U
 
+-- Both ways.
 pub like-back : (e d : Entry) → Like e d → Like d e
 like-back e d (p, q, r) = (sym p, sym q, sym r)
 
@@ -63,5 +66,6 @@ alike-at (x ∷ T) [] a k e p = absurd a
 alike-at (x ∷ T) (d ∷ U) a zero e p = (d, refl, subst (λ (y : Entry). Like y d) p (a .0))
 alike-at (x ∷ T) (d ∷ U) a (suc k) e p = alike-at T U (a .1) k e p
 
+-- A first word by one table is one by the other.
 pub alike-starts : (T U : List Entry) → Alike T U → (t n : ℕ) → Starts T t n → Starts U t n
 alike-starts T U a t n (k, e, p, q, r) = let (d, s, l) = alike-at T U a k e p in (k, d, s, sym (l .0) ∙ q, sym (l .1) ∙ r)

@@ -1,7 +1,7 @@
 -- The law refuses what it is to refuse: four wrong translations, each a word list with its table, and a proof that the law does not
 -- hold of it. And it minds no dead code: it holds of a function with nonsense behind its Return.
 -- Assumes nothing.
-use mathlib.Core.Path.{_≡_, refl, sym, ap}
+use mathlib.Core.Path.{refl, sym, ap}
 use mathlib.Core.List.{List, [], _∷_, _++_}
 use Prim.Native.Nat.{ℕ, zero, suc, _+_, _-_, _≤_, _<_}
 use native.Mathlib.Omega.{arith}
@@ -24,6 +24,7 @@ walked = record { place = 0; name = []; params = 0; first = 0; past = 12 }
 pub called : Entry
 called = record { place = 0; name = 97 ∷ []; params = 2; first = 12; past = 24 }
 
+-- Both.
 abbrev pub table : List Entry
 table = walked ∷ called ∷ []
 
@@ -101,6 +102,7 @@ dead-code = pop 0 2 ∷ load 0 3 7 ∷ push 0 3 ∷ push 0 2 ∷ ret 0 ∷ pop 0
 abbrev met : List ℕ
 met = 1 ∷ 0 ∷ 1 ∷ 0 ∷ 0 ∷ 1 ∷ 2 ∷ []
 
+-- It obeys the law.
 pub dead-code-passes : Heights (around dead-code) table walked
 unfolding around dead-code link patch walked called Covers
 dead-code-passes = heights (around dead-code) table (apart 0 24 table (refl, omega arith, (refl, omega arith, refl))) walked (At met)

@@ -1,15 +1,14 @@
 -- A function whose words are a piece, wherever they stand, obeys the law once its calls are patched, and some path through it comes
 -- to a Ret.
 -- Assumes nothing.
-use mathlib.Core.Path.{_≡_, refl, sym, ap, subst, _∙_}
+use mathlib.Core.Path.{_≡_, refl, sym, subst, _∙_}
 use mathlib.Core.Logic.{inl, inr}
 use mathlib.Core.Bool.{Bool}
-use mathlib.Core.Option.{Option, none, some}
-use mathlib.Core.List.{List, [], _∷_, _++_, map}
+use mathlib.Core.Option.{Option, some}
+use mathlib.Core.List.{List, [], _∷_, map}
 use Prim.Native.Nat.{ℕ, zero, suc, _+_, _≤_, _<_}
 use native.Mathlib.Omega.{arith}
 use lib.ListN.{length}
-use Rattle.isa.specs.declared.Opcode.the-variants as op
 use Rattle.rules.specs.Bytes.{Name}
 use Rattle.rules.specs.Tables.{last}
 use Rattle.rules.specs.Tree.{Function}
@@ -36,27 +35,27 @@ ends-only Kind.ends d e = refl
 ends-only Kind.stuck d e = cc
 
 module _ (M : Reading) where
-  -- what a piece's soundness says at one of its words
+  -- What a piece's soundness says at one of its words.
   pub sound-at : (H : Place M) (es : List (M .Note)) (i k : ℕ) (m : List (Noted M)) → Sounds M H i m → (j : ℕ) (s : M .State) → j < length m → Holds M (tops M m es) j s → k ≡ i + j
       → (o : Open) × At (map (λ (p : Noted M). p .1) m) j o × Goes M H k s o (flow o)
   sound-at H es i k [] r j s l a e = absurd (omega arith)
   sound-at H es i k (p ∷ m) r zero s l a e = (p .1, refl, subst (λ (n : ℕ). Goes M H n s (p .1) (flow (p .1))) (omega arith) (r .0 s a))
   sound-at H es i k (p ∷ m) r (suc j) s l a e = sound-at H es (suc i) k m (r .1) j s (omega arith) a (omega arith)
 
-  -- where nothing goes on behind a piece, its notes end with its words
+  -- Where nothing goes on behind a piece, its notes end with its words.
   pub short : (m : List (Noted M)) (j : ℕ) (s : M .State) → Holds M (tops M m []) j s → j < length m
   short [] j s a = absurd a
   short (p ∷ m) zero s a = omega arith
   short (p ∷ m) (suc j) s a = omega (arith, short m j s a)
 
--- the notes of heights say one height at each index
+-- The notes of heights say one height at each index.
 single-note : (t : Name → ℕ → Type 0) (l : List ℕ) (i x y : ℕ) → Holds (height t) l i x → Holds (height t) l i y → x ≡ y
 single-note t [] i x y p q = absurd p
 single-note t (a ∷ l) zero x y p q = sym p ∙ q
 single-note t (a ∷ l) (suc i) x y p q = single-note t l i x y p q
 
 module _ (fs : List Function) (T : List Entry) (mirrors : Mirrors fs T) where
-  -- a word that goes right as a height is right by the table, once patched
+  -- A word that goes right as a height is right by the table, once patched.
   right-word : (t : Name → ℕ → Type 0) (H : ℕ → ℕ → Type 0) (i x p : ℕ) (b : Bool) (w : Word) (k : Kind) → kind (w .op) ≡ k
       → Goes (height t) H i x (word p b w) (flow-of k (w .imm)) → Right T H i x (w .imm) k
   right-word t H i x p b w Kind.plain e r = r .1 x (subst (λ (k : Kind). Step-height k x x) (sym e) refl)
@@ -81,6 +80,7 @@ module _ (fs : List Function) (T : List Entry) (mirrors : Mirrors fs T) where
         (last-at entryName f T g u .0, g, last-at entryName f T g u .1, refl, v),
       )
 
+  -- A word that goes right is right once patched.
   patched : (H : ℕ → ℕ → Type 0) (i x : ℕ) (o : Open) → Goes (height (Takes fs)) H i x o (flow o) → Right T H i x (patch T i o .imm) (kind (patch T i o .op))
   unfolding patch
   patched H i x (word p b w) r = right-word (Takes fs) H i x p b w (kind (w .op)) refl r
@@ -93,6 +93,7 @@ module _ (fs : List Function) (T : List Entry) (mirrors : Mirrors fs T) where
   Stepped : ℕ → ℕ → ℕ → ℕ → Imm → Kind → Type 0
   Stepped i x j z d k = (y : Way) × (t : ℕ) × (g : ℕ) × (rest : ℕ) × Moves T i d y k t g j × (t + rest ≡ x) × (z ≡ rest + g)
 
+  -- Of a word.
   stepped-word : (t : Name → ℕ → Type 0) (i x j z p : ℕ) (b : Bool) (w : Word) (k : Kind) → kind (w .op) ≡ k
       → Leads (height t) i x (word p b w) (flow-of k (w .imm)) j z → Stepped i x j z (w .imm) k
   unfolding Stepped
@@ -106,21 +107,23 @@ module _ (fs : List Function) (T : List Entry) (mirrors : Mirrors fs T) where
   stepped-word t i x j z p b w Kind.ends e s = absurd s
   stepped-word t i x j z p b w Kind.stuck e s = absurd s
 
+  -- Of a call too.
   stepped : (i x j z : ℕ) (o : Open) → Leads (height (Takes fs)) i x o (flow o) j z → Stepped i x j z (patch T i o .imm) (kind (patch T i o .op))
   unfolding patch Stepped
   stepped i x j z (word p b w) l = stepped-word (Takes fs) i x j z p b w (kind (w .op)) refl l
   stepped i x j z (calls p f) ((n, y, t, q, h), s) = let (e, l, u) = called i n f t in (Way.pass, n, 1, y, (e, l, u, refl, s), q, omega arith)
 
-  -- a function that stands in the whole obeys the law
+  -- A function that stands in the whole obeys the law.
   module _ (whole : List Open) (e : Entry) (c : List Open) (piece : Piece (height (Takes fs)) c (suc (e .params)) []) (past : e .past ≡ e .first + length c)
       (up : Stands whole (e .first) c) where
     abbrev M : Reading
     M = height (Takes fs)
 
-    -- the map: the piece's heights, from the first word on
+    -- The map: the piece's heights, from the first word on.
     pub Map : ℕ → ℕ → Type 0
     Map i x = (j : ℕ) × (i ≡ e .first + j) × Holds M (tops M (piece .notes) []) j x
 
+    -- Each word that the map has is right.
     right-at : (j x : ℕ) → Holds M (tops M (piece .notes) []) j x → (w : Word) × At (link T 0 whole) (e .first + j) w × Right T Map (e .first + j) x (w .imm) (kind (w .op))
     unfolding Map
     right-at j x a = judge (sound-at M (Holds M (tops M (piece .notes) [])) [] 0 j (piece .notes) (piece .sound) j x (short M (piece .notes) j x a) a (omega arith))
@@ -133,6 +136,7 @@ module _ (fs : List Function) (T : List Entry) (mirrors : Mirrors fs T) where
           patched Map (e .first + j) x o (goes-up M (Holds M (tops M (piece .notes) [])) Map (e .first) (λ i k y h q. (i, q, h)) j (e .first + j) x o (flow o) refl s),
         )
 
+    -- The map is a certificate.
     pub certified : Certified (link T 0 whole) T e Map
     unfolding Map
     certified = record {

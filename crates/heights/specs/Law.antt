@@ -3,12 +3,12 @@
 -- Assumes nothing.
 use mathlib.Core.Path.{_≡_, refl, sym, ap, subst, subst₂, _∙_}
 use mathlib.Core.Logic.{_⊎_, inl, inr, ⊎-map}
-use mathlib.Core.List.{List, [], _∷_}
-use Prim.Native.Nat.{ℕ, zero, suc, _+_, _-_, _≤_, _<_}
+use mathlib.Core.List.{List}
+use Prim.Native.Nat.{ℕ, suc, _+_, _-_, _≤_, _<_}
 use native.Mathlib.Omega.{arith}
 use Rattle.isa.specs.declared.Opcode.{Opcode}
 use Rattle.isa.specs.declared.Opcode.the-variants as op
-use Rattle.rules.specs.Machine.{Kind, Imm, Word, Entry, At, kind, Lands, Starts, Way, Moves, Path, start, step, Heights}
+use Rattle.rules.specs.Machine.{Kind, Imm, Word, Entry, At, kind, Way, Moves, Path, start, step, Heights}
 use Rattle.heights.specs.Positions.{at-one}
 use Rattle.heights.specs.Entries.{Like, Alike, like-back, alike-back, alike-starts}
 
@@ -53,14 +53,16 @@ ret-at-two C T f law i h p w a e = by-word (law .stops i h p Way.pass)
 
 -- Words that no path meets may be anything: dead code behind a Return, or what stands between functions.
 module _ (C D : List Word) (T : List Entry) (f : Entry) (same : (i h : ℕ) (w : Word) → Path C T f i h → At C i w → At D i w) (law : Heights C T f) where
-  -- what a path of D meets is what stood there in C
+  -- What a path of D meets is what stood there in C.
   met : (i h : ℕ) → Path C T f i h → (w : Word) → At D i w → At C i w
   met i h p w a = let (v, b, m) = law .stops i h p Way.pass in subst (At C i) (at-one D i v w (same i h v p b) a) b
 
+  -- A path of D is one of C.
   back : {i h : ℕ} → Path D T f i h → Path C T f i h
   back start = start
   back (step {i} {h} p w a y t g j m rest e) = step (back p) w (met i h (back p) w a) y t g j m rest e
 
+  -- So D obeys the law.
   pub unmet-free : Heights D T f
   unmet-free = record {
     stays = λ i h p. law .stays i h (back p);
@@ -82,16 +84,17 @@ alike-moves T U a i d y Kind.ends t g j m = m
 alike-moves T U a i d y Kind.stuck t g j m = m
 
 module _ (C : List Word) (T U : List Entry) (alike : Alike T U) (e d : Entry) (like : Like e d) where
-  -- a path by one table is a path by the other
+  -- A path by one table is a path by the other.
   pub alike-path : {i h : ℕ} → Path C T e i h → Path C U d i h
   alike-path start = subst₂ (Path C U d) (sym (like .0)) (ap suc (sym (like .1))) start
   alike-path (step {i} {h} p w a y t g j m rest q) = step (alike-path p) w a y t g j (alike-moves T U alike i (w .imm) y (kind (w .op)) t g j m) rest q
 
 module _ (C : List Word) (T U : List Entry) (alike : Alike T U) (e d : Entry) (like : Like e d) (law : Heights C T e) where
-  -- and the law goes over
+  -- And the law goes over.
   other : {i h : ℕ} → Path C U d i h → Path C T e i h
   other p = alike-path C U T (alike-back T U alike) d e (like-back e d like) p
 
+  -- So it holds by the other table.
   pub alike-heights : Heights C U d
   alike-heights = record {
     stays = λ i h p. subst₂ (λ (a b : ℕ). (a ≤ i) × (i < b)) (like .0) (like .2) (law .stays i h (other p));
@@ -101,6 +104,7 @@ module _ (C : List Word) (T U : List Entry) (alike : Alike T U) (e d : Entry) (l
         (w, a, ⊎-map (λ r. r) (λ (s : (t : ℕ) × (g : ℕ) × (j : ℕ) × Moves T i (w .imm) y (kind (w .op)) t g j). (s .0, s .1, s .2, alike-moves T U alike i (w .imm) y (kind (w .op)) (s .0) (s .1) (s .2) (s .3))) m);
   }
 
+-- A path that comes to a Ret does so by the other table.
 pub alike-home : (C : List Word) (T U : List Entry) → Alike T U → (e d : Entry) → Like e d → Home C T e → Home C U d
 unfolding Home
 alike-home C T U a e d l (i, s, p) = (i, s, alike-path C T U a e d l p)

@@ -18,6 +18,7 @@ Can-height Kind.calls x = ⊥
 Can-height Kind.ends x = ⊥
 Can-height Kind.stuck x = ⊥
 
+-- From height x to y.
 abbrev pub Step-height : Kind → ℕ → ℕ → Type 0
 Step-height Kind.plain x y = y ≡ x
 Step-height Kind.pushes x y = y ≡ suc x
@@ -28,6 +29,7 @@ Step-height Kind.calls x y = ⊥
 Step-height Kind.ends x y = ⊥
 Step-height Kind.stuck x y = ⊥
 
+-- Where it can, it does.
 step-height : (k : Kind) (x : ℕ) → Can-height k x → (y : ℕ) × Step-height k x y
 step-height Kind.plain x c = (x, refl)
 step-height Kind.pushes x c = (suc x, refl)
@@ -40,14 +42,17 @@ step-height Kind.stuck x c = absurd c
 
 -- takes f n: a call of f takes n.
 module _ (takes : Name → ℕ → Type 0) where
+  -- A call needs what it takes.
   abbrev pub Can : Open → ℕ → Type 0
   Can (word p b w) x = Can-height (kind (w .op)) x
   Can (calls p f) x = (n : ℕ) × (y : ℕ) × takes f n × (n + y ≡ x)
 
+  -- And gives one.
   abbrev pub Step : Open → ℕ → ℕ → Type 0
   Step (word p b w) x z = Step-height (kind (w .op)) x z
   Step (calls p f) x z = (n : ℕ) × (y : ℕ) × takes f n × (n + y ≡ x) × (z ≡ suc y)
 
+  -- Where a word can, it does.
   pub lives : (o : Open) (x : ℕ) → Can o x → (z : ℕ) × Step o x z
   lives (word p b w) x c = step-height (kind (w .op)) x c
   lives (calls p f) x (n, y, t, e) = (suc y, (n, y, t, e, refl))

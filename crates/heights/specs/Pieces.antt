@@ -1,14 +1,13 @@
 -- Each expression's words keep the height, each statement's keep it at one.
 -- Assumes nothing.
 use mathlib.Core.Path.{_≡_, refl, sym, ap, subst, _∙_}
-use mathlib.Core.Bool.{Bool}
 use mathlib.Core.Option.{Option, none, some}
 use mathlib.Core.List.{List, [], _∷_, _++_, map, reverse}
 use Prim.Native.Nat.{ℕ, zero, suc, _+_, _-_}
 use native.Mathlib.Omega.{arith}
 use lib.ListN.{length, length-reverse}
 use Rattle.isa.specs.declared.Opcode.the-variants as op
-use Rattle.rules.specs.Machine.{Kind, Imm, Word, kind}
+use Rattle.rules.specs.Machine.{Kind, Imm, kind}
 use Rattle.rules.specs.Tree.{BinOp, Expr, Exprs, Inits, Stmt, Stmts, Field, Function, Contract}
 use Rattle.rules.specs.Bytes.{Name}
 use Rattle.rules.specs.Builtins.{Builtin, builtin}
@@ -31,11 +30,13 @@ Plain Kind.calls = ⊥
 Plain Kind.ends = ⊥
 Plain Kind.stuck = ⊥
 
+-- Words that are all such.
 abbrev Flat : List Open → Type 0
 Flat [] = Unit {0}
 Flat (word p b w ∷ l) = Plain (kind (w .op)) × Flat l
 Flat (calls p f ∷ l) = ⊥
 
+-- A literal's stores, and a number's words, are.
 flat-stores : (p q i : ℕ) (vs : List At-reg) → Flat (stores p q i vs)
 unfolding stores
 flat-stores p q i [] = tt
@@ -64,6 +65,7 @@ plain-on Kind.calls d t = absurd t
 plain-on Kind.ends d t = absurd t
 plain-on Kind.stuck d t = absurd t
 
+-- So is every binary operation.
 plain-opcode : (o : BinOp) → Plain (kind (opcode o))
 plain-opcode BinOp.add = tt
 plain-opcode BinOp.sub = tt
@@ -80,6 +82,7 @@ module _ (takes : Name → ℕ → Type 0) (sole : (f : Name) (n m : ℕ) → ta
   abbrev H : Reading
   H = height takes
 
+  -- It leaves the height.
   plain-goes : (k : Kind) (a x : ℕ) → Plain k → a ≡ x → Can-height k x × ((y : ℕ) → Step-height k x y → a ≡ y)
   plain-goes Kind.plain a x t h = (tt, λ y q. h ∙ sym q)
   plain-goes Kind.pushes a x t h = absurd t
@@ -90,20 +93,25 @@ module _ (takes : Name → ℕ → Type 0) (sole : (f : Name) (n m : ℕ) → ta
   plain-goes Kind.ends a x t h = absurd t
   plain-goes Kind.stuck a x t h = absurd t
 
+  -- No words, at any height.
   none-at : (a : ℕ) → Piece H [] a (a ∷ [])
   none-at a = empty H a a (λ x h. h)
 
+  -- Such words, at any height.
   flat : (l : List Open) (a : ℕ) → Flat l → Piece H l a (a ∷ [])
   flat [] a t = none-at a
   flat (word p b w ∷ l) a t = cons H (word p b w) a a (plain-on (kind (w .op)) (w .imm) (t .0)) (λ x h. plain-goes (kind (w .op)) a x (t .0) h) (flat l a (t .1))
   flat (calls p f ∷ l) a t = absurd t
 
+  -- A Push, then what starts one higher.
   push-one : (p r a : ℕ) {ws : List Open} {es : List ℕ} → Piece H ws (suc a) es → Piece H (push p r ∷ ws) a es
   push-one p r a q = cons H (push p r) a (suc a) refl (λ x h. (tt, λ y e. omega arith)) q
 
+  -- A Pop, then what starts one lower.
   pop-one : (p r a : ℕ) {ws : List Open} {es : List ℕ} → Piece H ws a es → Piece H (pop p r ∷ ws) (suc a) es
   pop-one p r a q = cons H (pop p r) (suc a) a refl (λ x h. ((a, h), λ y e. omega arith)) q
 
+  -- Registers pushed, arguments pushed, registers popped.
   pushed : (p : ℕ) (l : List ℕ) (a b : ℕ) → b ≡ a + length l → Piece H (map (push p) l) a (b ∷ [])
   pushed p [] a b e = subst (λ (c : ℕ). Piece H [] a (c ∷ [])) (omega arith) (none-at a)
   pushed p (r ∷ l) a b e = push-one p r a (pushed p l (suc a) b (omega arith))
@@ -116,7 +124,7 @@ module _ (takes : Name → ℕ → Type 0) (sole : (f : Name) (n m : ℕ) → ta
   popped p [] a b e = subst (λ (c : ℕ). Piece H [] c (b ∷ [])) (omega arith) (none-at b)
   popped p (r ∷ l) a b e = subst (λ (c : ℕ). Piece H (map (pop p) (r ∷ l)) c (b ∷ [])) (omega arith) (pop-one p r (b + length l) (popped p l (b + length l) b refl))
 
-  -- a call: what is saved, the arguments' words, the arguments, the call, its result, what was saved
+  -- A call: what is saved, the arguments' words, the arguments, the call, its result, what was saved.
   call-level : (p : ℕ) (f : Name) (r k : ℕ) (saved : List ℕ) (regs : List At-reg) (c : List Open) (h : ℕ) → takes f k → length regs ≡ k
       → Piece H c (h + length saved) ((h + length saved) ∷ [])
       → Piece H (map (push p) saved ++ (c ++ (map (λ (v : At-reg). push p (v .reg)) regs ++ (calls p f ∷ pop p r ∷ map (pop p) (reverse saved))))) h (h ∷ [])
@@ -129,15 +137,16 @@ module _ (takes : Name → ℕ → Type 0) (sole : (f : Name) (n m : ℕ) → ta
       (pop-one p r (h + length saved)
       (popped p (reverse saved) (h + length saved) h (omega (arith, length-reverse saved)))))))
 
-  -- the words of a return, from the pushed value on
+  -- The words of a return, from the pushed value on.
   leave : (p t r : ℕ) (es : List ℕ) → Piece H (push p r ∷ push p t ∷ emit p op.Ret 0 0 0 (Imm.pos 0) ∷ []) 0 es
   leave p t r es = push-one p r 0 (push-one p t 1 (final H _ 2 es refl (λ x h. sym h)))
 
-  -- words that keep every height from which they may be entered
+  -- Words that keep every height from which they may be entered.
   abbrev Level : List Open → Type 0
   Level c = (h : ℕ) → Piece H c h (h ∷ [])
 
   module _ (R : Rules) (C : Contract) where
+    -- A call keeps the height.
     apply-level : (p : ℕ) (f : Name) (n k : ℕ) (a : Values) (b : Option Builtin) → Passes takes b f k → length (a .regs) ≡ k → Level (a .code)
         → All (λ (v : Value). Level (v .code)) (apply R C p f n a b)
     unfolding apply
@@ -149,6 +158,7 @@ module _ (takes : Name → ℕ → Type 0) (sole : (f : Name) (n m : ℕ) → ta
     apply-level p f n k a none t e q = all-next (alloc-reg R C p n) _ (λ d. all-ok _ (λ h.
         call-level p f d k (count 1 (n - 1)) (a .regs) (a .code) h t e (q (h + length (count 1 (n - 1))))))
 
+    -- So does a number.
     number-level : (p v n : ℕ) → All (λ (x : Value). Level (x .code)) (number R C p v n)
     unfolding number
     number-level p v n = all-pick _ _ _
@@ -199,6 +209,7 @@ module _ (takes : Name → ℕ → Type 0) (sole : (f : Name) (n m : ℕ) → ta
           all-bind (inits R C is s (v .next)) _ (inits-level is (q .1) s (v .next)) (λ vs pvs.
           all-ok _ (λ h. cat H (pv h) (pvs h))))
 
+    -- And an Emit.
     logs-level : (p : ℕ) (es : Exprs) → Exprs-fit takes es → (s : Scope) (n : ℕ) → All Level (logs R C p es s n)
     unfolding logs Exprs-fit
     logs-level p Exprs.none q s n = all-ok _ (none-at)
@@ -263,6 +274,7 @@ module _ (takes : Name → ℕ → Type 0) (sole : (f : Name) (n m : ℕ) → ta
           all-bind (stmts R C xs (d .scope) (d .next)) _ (stmts-level xs (q .1) (d .scope) (d .next)) (λ e pe.
           all-ok _ (cat H pd pe)))
 
+    -- A register for each parameter.
     alloc-regs-length : (p : ℕ) (xs : List Field) (n : ℕ) → All (λ (rs : List ℕ). length rs ≡ length xs) (alloc-regs R C p xs n)
     unfolding alloc-regs
     alloc-regs-length p [] n = all-ok _ refl

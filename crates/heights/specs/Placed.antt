@@ -4,7 +4,7 @@ use mathlib.Core.Path.{_≡_, refl, sym, ap, ap₂, subst, _∙_}
 use mathlib.Core.Bool.{Bool, true, false}
 use mathlib.Core.Option.{Option, none, some, Option·none-ne-some, Option·some-injective}
 use mathlib.Core.List.{List, [], _∷_, _++_}
-use Prim.Native.Nat.{ℕ, zero, suc, _+_, _-_, _≤_, _<_}
+use Prim.Native.Nat.{ℕ, zero, suc, _+_, _-_, _<_}
 use native.Mathlib.Omega.{arith}
 use lib.Dec.{leb}
 use borrow.Author.Tests.{leb-true, leb-false}
@@ -23,6 +23,7 @@ use Rattle.heights.specs.Fits.{Stmts-fit}
 use Rattle.bounds.specs.Answers.{All, all-ok, all-bind}
 use Rattle.heights.specs.Checks.{Takes, Bodies-fit}
 
+-- Patching keeps the count.
 pub length-link : (T : List Entry) (b : ℕ) (l : List Open) → length (link T b l) ≡ length l
 unfolding link
 length-link T b [] = refl
@@ -35,6 +36,7 @@ at-link T b [] i k o e p = absurd p
 at-link T b (x ∷ l) zero k o e p = ap₂ (patch T) (omega arith) p
 at-link T b (x ∷ l) (suc i) k o e p = at-link T (suc b) l i k o (omega arith) p
 
+-- A target less an own index leads to the target.
 pub lands-less : (i t : ℕ) → Lands i (less t i) t
 unfolding less pick
 lands-less i t = by-test (leb i t) refl
@@ -43,7 +45,7 @@ lands-less i t = by-test (leb i t) refl
     by-test true e = omega (arith, leb-true i t e)
     by-test false e = omega (arith, leb-false i t e)
 
--- the last of a name is one of the list
+-- The last of a name is one of the list.
 pub last-at : {A : Type 0} (n : A → Name) (x : Name) (l : List A) (a : A) → last n x l ≡ some a → (k : ℕ) × At l k a
 unfolding last orElse pick
 last-at n x [] a e = absurd (Option·none-ne-some a e)
@@ -69,6 +71,7 @@ Mirrors [] (e ∷ T) = ⊥
 Mirrors (f ∷ fs) [] = ⊥
 Mirrors (f ∷ fs) (e ∷ T) = (e .place ≡ f .place) × (e .name ≡ f .name) × (e .params ≡ length (f .params)) × Mirrors fs T
 
+-- Both found nothing, or the same parameters.
 Same : Option Function → Option Entry → Type 0
 Same none none = Unit {0}
 Same none (some e) = ⊥
@@ -87,6 +90,7 @@ unfolding Same pick
 pick-same true f e p = p
 pick-same false f e p = tt
 
+-- The last of a name, in the contract and in the table.
 last-same : (x : Name) (fs : List Function) (T : List Entry) → Mirrors fs T → Same (last functionName x fs) (last entryName x T)
 unfolding Mirrors Same last
 last-same x [] [] m = tt
@@ -96,7 +100,7 @@ last-same x (f ∷ fs) (e ∷ T) m =
     or-same (last functionName x fs) _ (last entryName x T) _ (last-same x fs T (m .3))
     (subst (λ (k : Name). Same (pick (eqName (f .name) x) (some f) none) (pick (eqName k x) (some e) none)) (sym (m .1)) (pick-same (eqName (f .name) x) f e (m .2)))
 
--- what a function takes by the contract, it takes by the table
+-- What a function takes by the contract, it takes by the table.
 pub by-table : (fs : List Function) (T : List Entry) → Mirrors fs T → (x : Name) (n : ℕ) → Takes fs x n
     → (e : Entry) × (last entryName x T ≡ some e) × (e .params ≡ n)
 unfolding Same
@@ -115,6 +119,7 @@ mirrored (g ∷ fs) [] m k f a = absurd m
 mirrored (g ∷ fs) (e ∷ T) m zero f a = (e, refl, m .0 ∙ ap (λ (x : Function). x .place) a, m .1 ∙ ap (λ (x : Function). x .name) a, m .2 ∙ ap (λ (x : Function). length (x .params)) a)
 mirrored (g ∷ fs) (e ∷ T) m (suc k) f a = mirrored fs T (m .3) k f a
 
+-- As many entries as functions.
 pub mirrors-length : (fs : List Function) (T : List Entry) → Mirrors fs T → length T ≡ length fs
 unfolding Mirrors
 mirrors-length [] [] m = refl
@@ -131,16 +136,18 @@ module _ (Good : List Open → ℕ → Type 0) where
       × Good c (e .params) × Laid (i + length c) rest T
 
   module _ (filled : (c : List Open) (n : ℕ) → Good c n → 0 < length c) where
+    -- They cover the code.
     pub covers : (i : ℕ) (code : List Open) (T : List Entry) → Laid i code T → (n : ℕ) → n ≡ i + length code → Covers i n T
     unfolding Laid Covers
     covers i code [] z n e = omega (arith, ap length z)
     covers i code (x ∷ T) (c, rest, w, f, g, good, z) n e =
         (f, omega (arith, filled c (x .params) good), subst (λ (j : ℕ). Covers j n T) (sym g) (covers (i + length c) rest T z n (omega (arith, ap length w, length-append c rest))))
 
-  -- the words of one function of the table, and where they stand in the whole
+  -- The words of one function of the table, and where they stand in the whole.
   unfoldable pub Housed : List Open → Entry → Type 0
   Housed all e = (c : List Open) × Good c (e .params) × (e .past ≡ e .first + length c) × Stands all (e .first) c
 
+  -- Every function of the table is so.
   pub housed : (all : List Open) (i : ℕ) (code : List Open) (T : List Entry) → Laid i code T → Stands all i code
       → (k : ℕ) (e : Entry) → At T k e → Housed all e
   unfolding Laid Housed
@@ -150,6 +157,7 @@ module _ (Good : List Open → ℕ → Type 0) where
   housed all i code (x ∷ T) (c, rest, w, f, g, good, z) up (suc k) e p =
       housed all (i + length c) rest T z (stands-right all i (i + length c) c rest refl (subst (Stands all i) w up)) k e p
 
+  -- The functions of a contract are laid so, with their table.
   pub functions-laid : (takes : Name → ℕ → Type 0) (R : Rules) (C : Contract)
       → ((f : Function) → Stmts-fit takes (f .body) → All (λ (c : List Open). Good c (length (f .params))) (function R C f))
       → (i : ℕ) (fs : List Function) → Bodies-fit takes fs → All (λ (b : Built). Laid i (b .code) (b .table) × Mirrors fs (b .table)) (functions R C i fs)

@@ -1,6 +1,6 @@
 -- Document 01, Heights, row by row: "Push +1, Pop -1, Call -(target's parameters) +1, Ret ends, all others 0".
 -- Assumes nothing.
-use mathlib.Core.Path.{_≡_, refl, ap, subst, sym, _∙_}
+use mathlib.Core.Path.{_≡_, refl, subst}
 use mathlib.Core.List.{List}
 use Prim.Native.Nat.{ℕ, suc, _+_}
 use native.Mathlib.Omega.{arith}
@@ -65,6 +65,7 @@ still op.SWrite p q r = tt
 still op.Syscall p q r = tt
 still op.VerifyMerkle p q r = tt
 
+-- Such a word leaves the height.
 still-moves : (T : List Entry) (i : ℕ) (d : Imm) (y : Way) (k : Kind) (t g j rest h x : ℕ) → Still k → Moves T i d y k t g j → t + rest ≡ h → x ≡ rest + g → x ≡ h
 still-moves T i d y Kind.plain t g j rest h x s m e q = omega arith
 still-moves T i d y Kind.pushes t g j rest h x s m e q = absurd s
@@ -76,6 +77,7 @@ still-moves T i d y Kind.calls t g j rest h x s m e q = absurd s
 still-moves T i d y Kind.ends t g j rest h x s m e q = absurd m
 still-moves T i d y Kind.stuck t g j rest h x s m e q = absurd m
 
+-- Every step is by the rows.
 pub rows : (C : List Word) (T : List Entry) (y : Way) (i h j x : ℕ) (w : Word) → At C i w → Next C T y i h j x → Rows C T y i h j x w
 unfolding Next
 rows C T y i h j x w a (v, b, t, g, rest, m, e, q) = record {

@@ -1,5 +1,5 @@
 -- Pieces of a function's words, with a note at each word of what is known there, wherever the piece comes to stand.
--- What a state is, and what a word does to it, is left open: heights are one reading, marks another.
+-- What a state is, and what a word does to it, is left open: heights are one reading of many.
 -- Assumes nothing.
 use mathlib.Core.Path.{_≡_, refl, sym, ap, ap₂, subst, _∙_}
 use mathlib.Core.Logic.{_⊎_, inl, inr}
@@ -28,6 +28,7 @@ pub data Flow : Type 0 where
   jumps forks : Imm → Flow
   ends stuck : Flow
 
+-- By its kind.
 abbrev pub flow-of : Kind → Imm → Flow
 flow-of Kind.plain d = on
 flow-of Kind.pushes d = on
@@ -38,11 +39,13 @@ flow-of Kind.calls d = stuck
 flow-of Kind.ends d = ends
 flow-of Kind.stuck d = stuck
 
+-- An open call goes on.
 abbrev pub flow : Open → Flow
 flow (word p b w) = flow-of (kind (w .op)) (w .imm)
 flow (calls p f) = on
 
 module _ (M : Reading) where
+  -- A word with what is known where it stands.
   abbrev pub Noted : Type 0
   Noted = M .Note × Open
 
@@ -61,6 +64,7 @@ module _ (M : Reading) where
   tops-append [] n es = refl
   tops-append (p ∷ m) n es = ap (λ (l : List (M .Note)). p .0 ∷ l) (tops-append m n es)
 
+  -- What is known of the state at each index.
   abbrev pub Place : Type 1
   Place = ℕ → M .State → Type 0
 
@@ -72,6 +76,7 @@ module _ (M : Reading) where
   Goes H i s o ends = M .End s
   Goes H i s o stuck = ⊥
 
+  -- So does each word, from index i on.
   abbrev pub Sounds : Place → ℕ → List Noted → Type 0
   Sounds H i [] = Unit {0}
   Sounds H i (p ∷ m) = ((s : M .State) → M .Means (p .0) s → Goes H i s (p .1) (flow (p .1))) × Sounds H (suc i) m
@@ -121,6 +126,7 @@ module _ (M : Reading) where
     -- wherever the words stand, some run leaves them
     pub leaves : (whole : List Open) (d : ℕ) → Stands whole d ws → (s : M .State) → M .Means a s → Leaves whole d s (d + length ws) es
 
+  -- A note for each word.
   pub noted : {ws : List Open} {a : M .Note} {es : List (M .Note)} (p : Piece ws a es) → length (p .notes) ≡ length ws
   noted p = sym (length-map (p .notes) _) ∙ ap length (p .words)
 
@@ -132,6 +138,7 @@ module _ (M : Reading) where
   glue (p ∷ m) b ys y zero s a = a
   glue (p ∷ m) b ys y (suc i) s a = glue m b ys y i s a
 
+  -- What holds behind a piece.
   pub beyond : (m : List Noted) (ys : List (M .Note)) (i : ℕ) (s : M .State) (k : ℕ) → Holds ys i s → k ≡ length m + i → Holds (tops m ys) k s
   beyond [] ys i s k a e = subst (λ (j : ℕ). Holds ys j s) (omega arith) a
   beyond (p ∷ m) ys i s zero a e = absurd (omega arith)
@@ -141,6 +148,7 @@ module _ (M : Reading) where
   move H i k s h e = subst (λ (j : ℕ). H j s) (sym e) h
 
   module _ (H H′ : Place) (d : ℕ) (up : (j k : ℕ) (s : M .State) → H j s → k ≡ d + j → H′ k s) where
+    -- A piece is right wherever it comes to stand.
     pub goes-up : (i k : ℕ) (s : M .State) (o : Open) (f : Flow) → k ≡ d + i → Goes H i s o f → Goes H′ k s o f
     goes-up i k s o on e r = (r .0, λ t q. up (suc i) (suc k) t (r .1 t q) (omega arith))
     goes-up i k s o (jumps n) e r = (d + r .0, lands-up i (r .0) n d k e (r .1), up (r .0) (d + r .0) s (r .2) refl)
@@ -152,10 +160,12 @@ module _ (M : Reading) where
     sounds-up i k [] e r = tt
     sounds-up i k (p ∷ m) e r = (λ s q. goes-up i k s (p .1) (flow (p .1)) e (r .0 s q), sounds-up (suc i) (suc k) m (omega arith) (r .1))
 
+  -- Two pieces in a row.
   pub sounds-append : (H : Place) (i k : ℕ) (m n : List Noted) → Sounds H i m → k ≡ length m + i → Sounds H k n → Sounds H i (m ++ n)
   sounds-append H i k [] n r e t = subst (λ (j : ℕ). Sounds H j n) (omega arith) t
   sounds-append H i k (p ∷ m) n r e t = (r .0, sounds-append H (suc i) k m n (r .1) (omega arith) t)
 
+  -- One piece behind another.
   pub cat : {v w : List Open} {a b : M .Note} {es : List (M .Note)} → Piece v a (b ∷ []) → Piece w b es → Piece (v ++ w) a es
   cat {v} {w} {a} {b} {es} p q =
       record {
@@ -187,11 +197,11 @@ module _ (M : Reading) where
       second : Sounds H (length m) n
       second = sounds-up (Holds (tops n es)) H (length m) (λ j k y h e. beyond m (tops n es) j y k h e) 0 (length m) n (omega arith) (q .sound)
 
-  -- nothing: what is known may be forgotten
+  -- Nothing: what is known may be forgotten.
   pub empty : (a b : M .Note) → ((s : M .State) → M .Means a s → M .Means b s) → Piece [] a (b ∷ [])
   empty a b f = record { notes = []; words = refl; begins = f; sound = tt; leaves = λ whole d at s h. (d, s, enter, inl (omega arith, f s h)) }
 
-  -- one word in front, that goes on to the next
+  -- One word in front, that goes on to the next.
   pub cons : (w : Open) (a b : M .Note) {ws : List Open} {es : List (M .Note)} → flow w ≡ on
       → ((s : M .State) → M .Means a s → M .Can w s × ((t : M .State) → M .Step w s t → M .Means b t)) → Piece ws b es → Piece (w ∷ ws) a es
   cons w a b e r p =
@@ -204,7 +214,7 @@ module _ (M : Reading) where
             (suc d, t, onward enter w (subst (λ (n : ℕ). At whole n w) (omega arith) (at 0 w refl)) (suc d) t (subst (λ (f : Flow). Leads d s w f (suc d) t) (sym e) (q, refl)), inl (omega arith, r s h .1 t q));
       }) p
 
-  -- the last word, behind which no path from here goes on; what may stand there is reached in other ways
+  -- The last word, behind which no path from here goes on; what may stand there is reached in other ways.
   pub final : (w : Open) (a : M .Note) (es : List (M .Note)) → flow w ≡ ends → ((s : M .State) → M .Means a s → M .End s) → Piece (w ∷ []) a es
   final w a es e f = record {
     notes = (a, w) ∷ [];

@@ -10,7 +10,7 @@ use Rattle.isa.specs.declared.Opcode.the-variants as op
 use Rattle.rules.specs.Machine.{Imm, At}
 use Rattle.rules.specs.Emit.{Open, emit, jump, branches, loops}
 use Rattle.heights.specs.Positions.{Stands, stands-left, stands-right}
-use Rattle.heights.specs.Segment.{Reading, Noted, Holds, tops, tops-append, Place, Goes, flow, Sounds, Run, enter, onward, Leaves, leaves-after, leaves-on, Piece, noted, glue, beyond, move, sounds-up, sounds-append}
+use Rattle.heights.specs.Segment.{Reading, Noted, Holds, tops, tops-append, Place, Goes, flow, Sounds, enter, onward, Leaves, leaves-after, leaves-on, Piece, noted, glue, beyond, move, sounds-up, sounds-append}
 
 -- The first of words that stand somewhere.
 first-of : (whole : List Open) (d : ℕ) (o : Open) (ws : List Open) → Stands whole d (o ∷ ws) → At whole d o
@@ -161,7 +161,7 @@ module _ (M : Reading) where
       first : Sounds M H 0 m
       first = sounds-up M (Holds M (tops M m (b ∷ []))) H 0 (λ j k y h i. move M H j k y (glue M m b rest (λ t x. x) j y h) (omega arith)) 0 0 m (omega arith) (p .sound)
 
-      -- the places behind the condition
+      -- The places behind the condition.
       behind : (j k : ℕ) (y : M .State) → Holds M rest j y → k ≡ length m + j → H k y
       behind j k y h i = beyond M m rest j y k h i
 

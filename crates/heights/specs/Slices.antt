@@ -1,8 +1,8 @@
 -- What stands in the lent slices after a build that answers 0: the program's words, and entries that the law does not tell from its own.
 -- Assumes nothing.
-use mathlib.Core.Path.{_≡_, refl, sym, ap, subst, subst₂, _∙_}
-use mathlib.Core.List.{List, [], _∷_, _++_, map}
-use Prim.Native.Nat.{ℕ, zero, suc, _+_, _*_, _/_, _≤_}
+use mathlib.Core.Path.{_≡_, refl, sym, ap, subst, _∙_}
+use mathlib.Core.List.{List, [], _∷_}
+use Prim.Native.Nat.{ℕ, zero, suc, _*_, _≤_}
 use native.Mathlib.Omega.{arith}
 use lib.ListN.{length, length-map, getD, take, drop}
 use Rattle.rules.specs.Machine.{Entry, At, numberOf}
@@ -32,6 +32,7 @@ take-over [] s h = refl
 take-over (a ∷ l) [] h = absurd (omega arith)
 take-over (a ∷ l) (x ∷ s) h = ap (λ r. a ∷ r) (take-over l s (omega arith))
 
+-- The end of a function is read back.
 past-read : (i n : ℕ) (T : List Entry) (s : List ℕ) → 3 * length T ≤ length s → Covers i n T → i ≡ pastIn (length T) n (over (spread threeOf T) s)
 unfolding pastIn spread threeOf Covers
 past-read i n [] s h c = c
@@ -46,6 +47,7 @@ Listed [] (d ∷ U) = ⊥
 Listed (e ∷ T) [] = ⊥
 Listed (e ∷ T) (d ∷ U) = (d .place ≡ e .place) × Like e d × Listed T U
 
+-- They are read back from what was written.
 pub entries-read : (i n : ℕ) (T : List Entry) (s : List ℕ) → 3 * length T ≤ length s → Covers i n T → Listed T (entriesIn (length T) n (over (spread threeOf T) s))
 unfolding entriesIn spread threeOf Covers Listed
 entries-read i n [] s h c = tt
@@ -71,6 +73,7 @@ listed-at (x ∷ T) [] l k e a = absurd l
 listed-at (x ∷ T) (d ∷ U) (p, q, l) zero e a = (d, refl, p ∙ ap (λ (y : Entry). y .place) a, subst (λ (y : Entry). Like y d) a q)
 listed-at (x ∷ T) (d ∷ U) (p, q, l) (suc k) e a = listed-at T U l k e a
 
+-- And what stands there is an entry.
 pub listed-from : (T U : List Entry) → Listed T U → (k : ℕ) (d : Entry) → At U k d → (e : Entry) × At T k e × Like e d
 unfolding Listed
 listed-from [] [] l k d a = absurd a
@@ -84,6 +87,7 @@ listed-from (e ∷ T) (x ∷ U) (p, q, l) (suc k) d a = listed-from T U l k d a
 unfoldable pub wordsIn : (img code table : List ℕ) → List ℕ
 wordsIn img code table = take (buildOf img code table .count) (codeOf img code table)
 
+-- The entries.
 unfoldable pub tableIn : (img code table : List ℕ) → List Entry
 tableIn img code table = entriesIn (length (contractAt img .functions)) (buildOf img code table .count) (tableOf img code table)
 
@@ -94,6 +98,7 @@ pub record Lent (img code table : List ℕ) : Type 0 where
   pub words : wordsIn img code table ≡ wordsOf P
   pub entries : Listed (P .table) (tableIn img code table)
 
+-- What stands there is the program.
 pub lent : (img code table : List ℕ) → buildOf img code table .refusal ≡ 0 → Lent img code table
 unfolding wordsIn tableIn buildOf codeOf tableOf programAnswer at-exit wordsOf
 lent img code table z = from (accepted img code table z)

@@ -1,23 +1,23 @@
 -- Demand 3 over words as records: every function of an accepted contract obeys the law of heights.
 -- Assumes nothing.
-use mathlib.Core.Path.{_≡_, refl, sym, ap, subst, _∙_}
+use mathlib.Core.Path.{_≡_, refl, subst}
 use mathlib.Core.Option.{Option, none, some}
-use mathlib.Core.List.{List, [], _∷_, _++_}
-use Prim.Native.Nat.{ℕ, zero, suc, _+_, _<_}
+use mathlib.Core.List.{List, [], _++_}
+use Prim.Native.Nat.{ℕ, suc, _+_, _<_}
 use native.Mathlib.Omega.{arith}
-use lib.ListN.{length, length-append}
+use lib.ListN.{length}
 use Rattle.rules.specs.Tables.{last}
 use Rattle.rules.specs.Tree.{Function, Contract}
-use Rattle.rules.specs.Refusal.{Res, ok, _>>=_}
+use Rattle.rules.specs.Refusal.{ok, _>>=_}
 use Rattle.rules.specs.Builtins.{main}
 use Rattle.rules.specs.Check.{checkOf}
 use Rattle.rules.specs.Read.{contractAt}
 use Rattle.rules.specs.Analyse.{functionName, analyse}
 use Rattle.rules.specs.Ambiguous.{firstAmbiguous}
-use Rattle.rules.specs.Machine.{Word, Entry, At, Heights}
+use Rattle.rules.specs.Machine.{Entry, At, Heights}
 use Rattle.rules.specs.Emit.{Rules, Open}
 use Rattle.rules.specs.Generate.{function}
-use Rattle.rules.specs.Link.{Built, Program, functions, link, opening, with-main, generate}
+use Rattle.rules.specs.Link.{Program, functions, link, opening, with-main, generate}
 use Rattle.rules.specs.Build.{rules, passed, clear, analysed, program}
 use Rattle.heights.specs.Positions.{at-right}
 use Rattle.heights.specs.Entries.{Covers, apart}
@@ -36,6 +36,7 @@ use Rattle.heights.specs.Judged.{short, Map, certified, comes-home}
 Good : List Function → List Open → ℕ → Type 0
 Good fs c n = Piece (height (Takes fs)) c (suc n) []
 
+-- There is a word at least.
 filled : (fs : List Function) (c : List Open) (n : ℕ) → Good fs c n → 0 < length c
 unfolding Good
 filled fs c n p = omega (arith, noted (height (Takes fs)) p, short (height (Takes fs)) (p .notes) 0 (suc n) (p .begins (suc n) refl))
@@ -52,17 +53,21 @@ pub record Obeys (fs : List Function) (P : Program) : Type 0 where
   pub home : (k : ℕ) (e : Entry) → At (P .table) k e → Home (P .words) (P .table) e
 
 module _ (fs : List Function) (T : List Entry) (mirrors : Mirrors fs T) (R : Rules) (code : List Open) (laid : Laid (Good fs) 3 code T) where
+  -- All open words.
   whole : List Open
   whole = opening R ++ code
 
+  -- Each function stands in them.
   house : (k : ℕ) (e : Entry) → At T k e → Housed (Good fs) whole e
   unfolding whole opening
   house = housed (Good fs) whole 3 code T laid (λ j o b. at-right (opening R) code j (3 + j) o (omega arith) b)
 
+  -- And they are no more.
   covered : Covers 3 (length (link T 0 whole)) T
   unfolding whole opening
   covered = covers (Good fs) (filled fs) 3 code T laid _ (omega (arith, length-link T 0 whole))
 
+  -- Each obeys the law, and comes to a Ret.
   placed : (k : ℕ) (e : Entry) → At T k e → Heights (link T 0 whole) T e × Home (link T 0 whole) T e
   unfolding Housed Good
   placed k e a =
@@ -80,6 +85,7 @@ module _ (fs : List Function) (T : List Entry) (mirrors : Mirrors fs T) (R : Rul
     home = λ k e a. placed k e a .1;
   }
 
+-- Generation behind analysis.
 generated : (R : Rules) (C : Contract) → Bodies-fit (Takes (C .functions)) (C .functions) → All (Obeys (C .functions)) (generate R C)
 unfolding generate with-main Good
 generated R C q = with (last functionName main fs)
@@ -98,6 +104,7 @@ generated R C q = with (last functionName main fs)
 pub generated-obeys : (R : Rules) (C : Contract) → All (λ u. All (Obeys (C .functions)) (generate R C)) (analyse C)
 generated-obeys R C = all-map (analysis-fits C) (λ u q. generated R C q)
 
+-- Image by image.
 analysed-obeys : (img : List ℕ) → All (λ (C : Contract). All (Obeys (contractAt img .functions)) (generate rules C)) (analysed img)
 unfolding analysed
 analysed-obeys img =

@@ -1,20 +1,20 @@
 -- A refusal of the check or of analysis has a number.
 -- Assumes nothing.
-use mathlib.Core.Path.{_≡_, refl, subst}
-use mathlib.Core.Bool.{Bool, true, false, not}
+use mathlib.Core.Path.{_≡_, refl}
+use mathlib.Core.Bool.{Bool, true, false}
 use mathlib.Core.Option.{Option, none, some}
 use mathlib.Core.List.{List, [], _∷_}
 use Prim.Native.Nat.{ℕ, zero, suc, _+_, _-_, _≤_}
 use native.Mathlib.Omega.{arith}
 use borrow.Author.Tests.{eqb-false}
-use lib.Dec.{eqb, ltb}
+use lib.Dec.{eqb}
 use lib.ListN.{length}
 use Rattle.rules.specs.declared.Seen.{Seen}
 use Rattle.rules.specs.declared.Seen.the-variants.{Sound, Fault}
-use Rattle.rules.specs.Bytes.{pick, Name, kindAt, endAt}
+use Rattle.rules.specs.Bytes.{pick, Name}
 use Rattle.rules.specs.Grammar.{dueAt}
-use Rattle.rules.specs.Check.{headerOf, refusalOf, startOf, varsIn, ended, Child, andThen, childrenOf, recordBy, recordOf, wholeOf, checkOf}
-use Rattle.rules.specs.Tree.{Expr, Exprs, Inits, Stmt, Stmts, Field, Struct, Function, Contract}
+use Rattle.rules.specs.Check.{headerOf, refusalOf, Child, andThen, childrenOf, recordBy, recordOf, wholeOf, checkOf}
+use Rattle.rules.specs.Tree.{Expr, Exprs, Inits, Stmt, Stmts, Struct, Function, Contract}
 use Rattle.rules.specs.Types.{Typ, Env}
 use Rattle.rules.specs.Refusal.{Refusal, Res, ok, bad, _>>=_, known, unless, refused, numberOf}
 use Rattle.rules.specs.Analyse as analysis
@@ -25,6 +25,7 @@ pub data Told {A : Type 0} : Res A → Type 0 where
   told-ok : (a : A) → Told (ok a)
   told-bad : (r : Refusal) → 1 ≤ numberOf r → Told (bad r)
 
+-- First one answer, then the next.
 pub told-bind : {A B : Type 0} (m : Res A) (f : A → Res B) → Told m → ((a : A) → Told (f a)) → Told (m >>= f)
 unfolding _>>=_
 told-bind m f (told-ok a) k = k a
@@ -50,6 +51,7 @@ abbrev Numbered : Seen → Type 0
 Numbered (Sound q m) = Unit {0}
 Numbered (Fault n p) = 1 ≤ n
 
+-- Either way of a test.
 numbered-pick : (b : Bool) (x y : Seen) → (b ≡ true → Numbered x) → (b ≡ false → Numbered y) → Numbered (pick b x y)
 unfolding pick
 numbered-pick true x y p q = p refl
@@ -61,6 +63,7 @@ numbered-then (Sound q m) f h k = k q m
 numbered-then (Fault n p) f h k = h
 
 module _ (child : Child) (told : (s : List ℕ) (at end d i vars : ℕ) → Numbered (child s at end d i vars)) where
+  -- The parts of a record.
   children : (fuel : ℕ) (s : List ℕ) (p end d k i vars : ℕ) → Numbered (childrenOf child fuel s p end d k i vars)
   unfolding childrenOf
   children zero s p end d k i vars = omega arith
@@ -80,6 +83,7 @@ unfolding recordOf
 records-numbered zero = record-numbered (λ s at end d i vars. Fault 6 at) (λ s at end d i vars. omega arith) zero
 records-numbered (suc left) = record-numbered (recordOf left) (records-numbered left) (suc left)
 
+-- The whole image.
 check-numbered : (img : List ℕ) → Numbered (checkOf img)
 unfolding checkOf wholeOf
 check-numbered img = numbered-pick _ _ _ (λ e. omega arith) (λ e. whole (recordOf 64 img 0 (length img) 1 0 0) (records-numbered 64 img 0 (length img) 1 0 0))
@@ -88,6 +92,7 @@ check-numbered img = numbered-pick _ _ _ (λ e. omega arith) (λ e. whole (recor
     whole (Sound q m) h = numbered-pick _ _ _ (λ e. omega arith) (λ e. tt)
     whole (Fault n p) h = h
 
+-- Rows 1 to 7.
 pub check-told : (img : List ℕ) → Told (passed (checkOf img))
 unfolding passed numberOf refused
 check-told img = by-seen (checkOf img) (check-numbered img)
@@ -172,6 +177,7 @@ module _ (C : Contract) where
       scopes-told Stmts.none Γ = told-ok _
       scopes-told (Stmts.more x xs) Γ = told-bind _ _ (scope-told x Γ) (λ Δ. scopes-told xs Δ)
 
+  -- Rows 10 to 22.
   pub analysis-told : (fs : List Function) → Told (analysis.functions C fs)
   unfolding analysis.functions analysis.function
   analysis-told [] = told-ok _
