@@ -13,3 +13,5 @@ pub mod Exprs
 pub mod Stmts
 pub mod Contracts
 pub mod Programs
+pub mod Told
+pub mod Refusals

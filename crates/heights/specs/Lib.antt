@@ -13,7 +13,6 @@ pub mod Pieces
 pub mod Placed
 pub mod Judged
 pub mod Theorem
-pub mod Told
 pub mod Accepted
 pub mod Slices
 pub mod Demand3

@@ -1,4 +1,4 @@
--- A refusal of the check or of analysis has a number.
+-- A refusal of the check or of analysis has a number, and no count.
 -- Assumes nothing.
 use mathlib.Core.Path.{_≡_, refl}
 use mathlib.Core.Bool.{Bool, true, false}
@@ -20,10 +20,14 @@ use Rattle.rules.specs.Refusal.{Refusal, Res, ok, bad, _>>=_, known, unless, re
 use Rattle.rules.specs.Analyse as analysis
 use Rattle.rules.specs.Build.{passed}
 
--- An answer, or a refusal with a number.
+-- A number, and no count.
+abbrev pub Plain : Refusal → Type 0
+Plain r = (1 ≤ numberOf r) × (refused r .count ≡ 0)
+
+-- An answer, or a plain refusal.
 pub data Told {A : Type 0} : Res A → Type 0 where
   told-ok : (a : A) → Told (ok a)
-  told-bad : (r : Refusal) → 1 ≤ numberOf r → Told (bad r)
+  told-bad : (r : Refusal) → Plain r → Told (bad r)
 
 -- First one answer, then the next.
 pub told-bind : {A B : Type 0} (m : Res A) (f : A → Res B) → Told m → ((a : A) → Told (f a)) → Told (m >>= f)
@@ -36,12 +40,12 @@ unfolding pick
 told-pick true x y p q = p
 told-pick false x y p q = q
 
-pub told-known : {A : Type 0} (r : Refusal) (o : Option A) → 1 ≤ numberOf r → Told (known r o)
+pub told-known : {A : Type 0} (r : Refusal) (o : Option A) → Plain r → Told (known r o)
 unfolding known
 told-known r (some a) h = told-ok a
 told-known r none h = told-bad r h
 
-pub told-unless : {A : Type 0} (b : Bool) (r : Refusal) (a : A) → 1 ≤ numberOf r → Told (unless b r a)
+pub told-unless : {A : Type 0} (b : Bool) (r : Refusal) (a : A) → Plain r → Told (unless b r a)
 unfolding unless
 told-unless true r a h = told-bad r h
 told-unless false r a h = told-ok a
@@ -99,38 +103,38 @@ check-told img = by-seen (checkOf img) (check-numbered img)
   where
     by-seen : (x : Seen) → Numbered x → Told (passed x)
     by-seen (Sound q m) h = told-ok tt
-    by-seen (Fault n p) h = told-bad _ h
+    by-seen (Fault n p) h = told-bad _ (h, refl)
 
 -- Analysis.
 fitted-told : (p : ℕ) (f : Name) (n : ℕ) (m : Option analysis.Misfit) (ps : List Typ) (t : Typ) → Told (analysis.fitted p f n m ps t)
 unfolding analysis.fitted analysis.fits numberOf refused
-fitted-told p f n none ps t = told-pick _ _ _ (told-ok t) (told-bad _ (omega arith))
-fitted-told p f n (some m) ps t = told-pick _ _ _ (told-bad _ (omega arith)) (told-bad _ (omega arith))
+fitted-told p f n none ps t = told-pick _ _ _ (told-ok t) (told-bad _ (omega arith, refl))
+fitted-told p f n (some m) ps t = told-pick _ _ _ (told-bad _ (omega arith, refl)) (told-bad _ (omega arith, refl))
 
 applied-told : (p : ℕ) (f : Name) (n : ℕ) (m : Option analysis.Misfit) (s : Option analysis.Sig) → Told (analysis.applied p f n m s)
 unfolding analysis.applied numberOf refused
-applied-told p f n m none = told-bad (Refusal.no-function p f) (omega arith)
+applied-told p f n m none = told-bad (Refusal.no-function p f) (omega arith, refl)
 applied-told p f n m (some s) = fitted-told p f n m (s .params) (s .ret)
 
 init-told : (p : ℕ) (x : Name) (o : Option Typ) (t : Typ) → Told (analysis.initFits p x o t)
 unfolding analysis.initFits numberOf refused
-init-told p x none t = told-bad (Refusal.init-field p x) (omega arith)
-init-told p x (some e) t = told-unless _ _ _ (omega arith)
+init-told p x none t = told-bad (Refusal.init-field p x) (omega arith, refl)
+init-told p x (some e) t = told-unless _ _ _ (omega arith, refl)
 
 field-told : (p : ℕ) (s x : Name) (o : Option Struct) → Told (analysis.fieldOf p s x o)
 unfolding analysis.fieldOf numberOf refused
 field-told p s x none = told-ok _
-field-told p s x (some d) = told-known _ _ (omega arith)
+field-told p s x (some d) = told-known _ _ (omega arith, refl)
 
 module _ (C : Contract) where
   access-told : (p : ℕ) (t : Typ) (x : Name) → Told (analysis.access C p t x)
   unfolding analysis.access numberOf refused
   access-told p (Typ.struct s) x = field-told p s x (analysis.structNamed C s)
   access-told p Typ.unknown x = told-ok _
-  access-told p Typ.u64 x = told-bad (Refusal.not-struct p) (omega arith)
-  access-told p Typ.bool x = told-bad (Refusal.not-struct p) (omega arith)
-  access-told p Typ.field x = told-bad (Refusal.not-struct p) (omega arith)
-  access-told p Typ.void x = told-bad (Refusal.not-struct p) (omega arith)
+  access-told p Typ.u64 x = told-bad (Refusal.not-struct p) (omega arith, refl)
+  access-told p Typ.bool x = told-bad (Refusal.not-struct p) (omega arith, refl)
+  access-told p Typ.field x = told-bad (Refusal.not-struct p) (omega arith, refl)
+  access-told p Typ.void x = told-bad (Refusal.not-struct p) (omega arith, refl)
 
   mutual
     unfolding analysis.expr analysis.exprs analysis.inits numberOf refused
@@ -138,12 +142,12 @@ module _ (C : Contract) where
     type-told : (e : Expr) (Γ : Env) → Told (analysis.expr C e Γ)
     type-told (Expr.no-expr p) Γ = told-ok _
     type-told (Expr.int p v) Γ = told-ok _
-    type-told (Expr.ident p x) Γ = told-known _ _ (omega arith)
+    type-told (Expr.ident p x) Γ = told-known _ _ (omega arith, refl)
     type-told (Expr.storage-read p x) Γ = told-ok _
     type-told (Expr.mapping-read p x e) Γ = told-bind _ _ (type-told e Γ) (λ k. told-ok _)
     type-told (Expr.field-access p e x) Γ = told-bind _ _ (type-told e Γ) (λ t. access-told p t x)
-    type-told (Expr.literal p x is) Γ = told-bind _ _ (told-known _ _ (omega arith)) (λ s. told-bind _ _ (fields-told s is Γ) (λ u. told-ok _))
-    type-told (Expr.binary p a o b) Γ = told-bind _ _ (type-told a Γ) (λ l. told-bind _ _ (type-told b Γ) (λ r. told-unless _ _ _ (omega arith)))
+    type-told (Expr.literal p x is) Γ = told-bind _ _ (told-known _ _ (omega arith, refl)) (λ s. told-bind _ _ (fields-told s is Γ) (λ u. told-ok _))
+    type-told (Expr.binary p a o b) Γ = told-bind _ _ (type-told a Γ) (λ l. told-bind _ _ (type-told b Γ) (λ r. told-unless _ _ _ (omega arith, refl)))
     type-told (Expr.call p f es) Γ = told-bind _ _ (types-told es Γ) (λ vs. applied-told p f _ _ _)
 
     types-told : (es : Exprs) (Γ : Env) → Told (analysis.exprs C es Γ)
@@ -162,14 +166,14 @@ module _ (C : Contract) where
       scope-told (Stmt.no-stmt p) Γ = told-ok _
       scope-told (Stmt.let-in p x e) Γ = told-bind _ _ (type-told e Γ) (λ t. told-ok _)
       scope-told (Stmt.constrain p e) Γ = told-bind _ _ (type-told e Γ) (λ t. told-ok _)
-      scope-told (Stmt.assign p x e) Γ = told-bind _ _ (told-known _ _ (omega arith)) (λ a. told-bind _ _ (type-told e Γ) (λ t. told-unless _ _ _ (omega arith)))
+      scope-told (Stmt.assign p x e) Γ = told-bind _ _ (told-known _ _ (omega arith, refl)) (λ a. told-bind _ _ (type-told e Γ) (λ t. told-unless _ _ _ (omega arith, refl)))
       scope-told (Stmt.storage-write p x e) Γ = told-bind _ _ (type-told e Γ) (λ t. told-ok _)
       scope-told (Stmt.mapping-write p x e f) Γ = told-bind _ _ (type-told e Γ) (λ k. told-bind _ _ (type-told f Γ) (λ t. told-ok _))
       scope-told (Stmt.if-else p c t e) Γ = told-bind _ _ (type-told c Γ) (λ k. told-bind _ _ (scopes-told t Γ) (λ Δ. scopes-told e Δ))
       scope-told (Stmt.while p c b) Γ = told-bind _ _ (type-told c Γ) (λ k. scopes-told b Γ)
       scope-told (Stmt.for p x e f b) Γ = told-bind _ _ (type-told e Γ) (λ k. told-bind _ _ (type-told f Γ) (λ t. told-bind _ _ (scopes-told b _) (λ Δ. told-ok _)))
-      scope-told (Stmt.return p e) Γ = told-bind _ _ (type-told e Γ) (λ t. told-unless _ _ _ (omega arith))
-      scope-told (Stmt.return-none p) Γ = told-unless _ _ _ (omega arith)
+      scope-told (Stmt.return p e) Γ = told-bind _ _ (type-told e Γ) (λ t. told-unless _ _ _ (omega arith, refl))
+      scope-told (Stmt.return-none p) Γ = told-unless _ _ _ (omega arith, refl)
       scope-told (Stmt.emits p x es) Γ = told-bind _ _ (types-told es Γ) (λ vs. told-ok _)
       scope-told (Stmt.just p e) Γ = told-bind _ _ (type-told e Γ) (λ t. told-ok _)
 

@@ -1,0 +1,129 @@
+-- fill_list meets its contract.
+-- Assumes nothing.
+use mathlib.Core.Logic.{⊎-elim}
+use mathlib.Core.Path.{_≡_}
+use Prim.Native.Nat.{_+_, _-_, _≤_}
+use native.Mathlib.Omega.{arith}
+use borrow.Author.Tests.{ltb-true, ltb-false}
+use lib.ListN.{length-set}
+use Rattle.rules.specs.Read.{placesIn, placesFrom}
+use Rattle.tables.proofs.Fill.{Filled, begin, put, done, places-zero, places-end, places-more}
+use borrow.Author.Needs.{needs}
+use Rattle.tables.proofs.fill_list.Statement.{statement}
+use Rattle.tables.proofs.fill_list.Tie as tie
+
+abbrev Inv-loop : tie.InvT-loop
+Inv-loop t₀ base most img l end p₀ n₀ t p n = (n ≤ most) × Filled img t₀ t base (placesIn most img l) (placesFrom (most - n) img p end) n
+
+abbrev μ-loop : tie.MeasureT-loop
+μ-loop t₀ base most img l end p₀ n₀ t p n = most - n
+
+past-requires : tie.Need-past-requires Inv-loop μ-loop
+past-requires c κs = search needs
+
+body-requires : tie.Need-body-requires Inv-loop μ-loop
+body-requires c κs = search needs
+
+loop-holds : tie.Need-loop-holds Inv-loop μ-loop
+loop-holds c = (omega arith, let z : c .before .before .before .before .args .most - 0 ≡ c .before .before .before .before .args .most = omega arith in rw (z, c .body .ensures .0, c .before .past .ensures .0) (begin (c .before .before .before .before .args .img .now) (c .before .before .before .before .args .t .now) (c .before .before .before .before .args .base) (placesIn (c .before .before .before .before .args .most) (c .before .before .before .before .args .img .now) (c .before .before .before .before .args .l))))
+
+body-requires-2 : tie.Need-body-requires-2 Inv-loop μ-loop
+body-requires-2 c κs = search needs
+
+name-key-requires : tie.Need-name-key-requires Inv-loop μ-loop
+name-key-requires c κs = search needs
+
+add-t : tie.Need-add-t Inv-loop μ-loop
+add-t c = search needs
+
+mul-t : tie.Need-mul-t Inv-loop μ-loop
+mul-t c = search needs
+
+add-t-2 : tie.Need-add-t-2 Inv-loop μ-loop
+add-t-2 c = search needs
+
+mul-t-2 : tie.Need-mul-t-2 Inv-loop μ-loop
+mul-t-2 c = search needs
+
+slice-write-t : tie.Need-slice-write-t Inv-loop μ-loop
+slice-write-t c = search needs
+
+add-t-3 : tie.Need-add-t-3 Inv-loop μ-loop
+add-t-3 c = search needs
+
+mul-t-3 : tie.Need-mul-t-3 Inv-loop μ-loop
+mul-t-3 c = search needs
+
+add-t-4 : tie.Need-add-t-4 Inv-loop μ-loop
+add-t-4 c = search needs
+
+mul-t-4 : tie.Need-mul-t-4 Inv-loop μ-loop
+mul-t-4 c = search needs
+
+slice-write-t-2 : tie.Need-slice-write-t-2 Inv-loop μ-loop
+slice-write-t-2 c = simp length-set (omega arith)
+
+past-requires-2 : tie.Need-past-requires-2 Inv-loop μ-loop
+past-requires-2 c κs = search needs
+
+add-n : tie.Need-add-n Inv-loop μ-loop
+add-n c = search needs
+
+loop-less : tie.Need-loop-less Inv-loop μ-loop
+loop-less c = omega arith
+
+loop-again : tie.Need-loop-again Inv-loop μ-loop
+loop-again c = (
+  omega arith,
+  rw (c .past2 .ensures .0, c .before .name-key .ensures, c .before .before .body2 .ensures .0)
+      (put (c .before .before .before .before .before .before .before .before .before .before .args .img .now) (c .before .before .before .before .before .before .before .before .before .before .args .t .now) (c .before .before .before .before .before .before .before .before .before .before .args .base) (placesIn (c .before .before .before .before .before .before .before .before .before .before .args .most) (c .before .before .before .before .before .before .before .before .before .before .args .img .now) (c .before .before .before .before .before .before .before .before .before .before .args .l)) (c .before .before .before .before .before .loop .t) _ _ (c .before .before .before .before .before .loop .n) (c .before .before .before .before .before .loop .p)
+      (places-more (c .before .before .before .before .before .before .before .before .before .before .args .img .now) (c .before .before .before .before .before .before .before .before .before .before .args .most - c .before .before .before .before .before .loop .n) (c .before .before .before .before .before .before .before .before .before .before .args .most - (c .before .before .before .before .before .loop .n + 1)) (c .before .before .before .before .before .loop .p) (c .before .before .before .before .before .before .before .past .result) (omega arith) (ltb-true _ _ (c .before .before .before .if1 .taken)))
+      (omega (arith, c .before .before .before .before .before .loop .inv .1 .size))
+      (c .before .before .before .before .before .loop .inv .1)),
+)
+
+mul-t-5 : tie.Need-mul-t-5 Inv-loop μ-loop
+mul-t-5 c = search needs
+
+slice-write-t-3 : tie.Need-slice-write-t-3 Inv-loop μ-loop
+slice-write-t-3 c = search needs
+
+same-length : tie.Need-same-length Inv-loop μ-loop
+same-length c = search needs
+
+returns : tie.Need-returns Inv-loop μ-loop
+returns c = done (c .before .before .before .before .before .before .args .img .now) (c .before .before .before .before .before .before .args .t .now) (c .before .before .before .before .before .before .args .base) (placesIn (c .before .before .before .before .before .before .args .most) (c .before .before .before .before .before .before .args .img .now) (c .before .before .before .before .before .before .args .l)) (c .before .loop .t) _ (c .before .loop .n)
+    (⊎-elim (λ w. places-end (c .before .before .before .before .before .before .args .img .now) (c .before .before .before .before .before .before .args .most - c .before .loop .n) (c .before .loop .p) (c .before .before .before .past .result) (ltb-false _ _ (w .1 .left)))
+    (λ w. places-zero (c .before .before .before .before .before .before .args .img .now) (c .before .before .before .before .before .before .args .most - c .before .loop .n) (c .before .loop .p) (c .before .before .before .past .result) (omega (arith, w .left))) (c .loop-test .came))
+    (omega (arith, c .before .loop .inv .1 .size))
+    (c .before .loop .inv .1)
+
+pub fill-list-spec : {M : Type 1} → statement M
+fill-list-spec =
+    tie.close
+    (tie.spec
+    Inv-loop
+    μ-loop
+    past-requires
+    body-requires
+    loop-holds
+    body-requires-2
+    name-key-requires
+    add-t
+    mul-t
+    add-t-2
+    mul-t-2
+    slice-write-t
+    add-t-3
+    mul-t-3
+    add-t-4
+    mul-t-4
+    slice-write-t-2
+    past-requires-2
+    add-n
+    loop-less
+    loop-again
+    mul-t-5
+    slice-write-t-3
+    same-length
+    returns)
