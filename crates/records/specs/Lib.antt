@@ -1,3 +1,4 @@
 pub mod Names
 pub mod Small
 pub mod Keys
+pub mod Places

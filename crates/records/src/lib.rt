@@ -3,6 +3,7 @@ ghost use mathlib.Core.Path.{_≡_};
 ghost use Prim.Native.Nat.{_+_, _≤_, _<_};
 ghost use lib.ListN.{length};
 ghost use Rattle.rules.specs.Bytes.{byteAt, le32, le64, kindAt, inside, after, intAt, opAt, nameAt, eqName};
+ghost use Rattle.rules.specs.Read.{placesFrom};
 ghost use Rattle.records.specs.Keys.{keyOf};
 
 // The byte at i.
@@ -212,4 +213,20 @@ pub fn name_key(img: &[u8], i: usize) -> usize
     ensures { λ r. ⌜ r ≡ keyOf (nameAt (now (img .entry)) i) ⌝ }
 {
     key(name(img, i))
+}
+
+// How many records stand from `at` to `end`, `most` at most.
+pub fn count(img: &[u8], at: usize, end: usize, most: usize) -> usize
+    ensures { λ r. ⌜ r ≡ length (placesFrom most (now (img .entry)) at end) ⌝ }
+{
+    let mut p = at;
+    let mut n = 0;
+    while n < most {
+        if end <= p {
+            return n;
+        }
+        p = past(img, p);
+        n += 1;
+    }
+    n
 }

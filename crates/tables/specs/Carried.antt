@@ -1,16 +1,17 @@
 -- What a look-up says of the tree (contractAt).
 --     function-is, struct-is     the last function, the last struct of a name
 --     function-index-is, storage-index-is     the index of the last function, of the last storage field of a name
+--     function-count-is, struct-count-is     how many there are
 --     few     a List is read k records far
 -- Assumes nothing.
 use mathlib.Core.List.{List, [], _∷_, map}
 use mathlib.Core.Bool.{Bool, true, false}
 use mathlib.Core.Option.{Option, none, some}
-use mathlib.Core.Path.{_≡_, refl, _∙_}
+use mathlib.Core.Path.{_≡_, refl, _∙_, sym}
 use Prim.Native.Nat.{ℕ, zero, suc, _≤_}
 use native.Mathlib.Omega.{arith}
 use lib.Dec.{ltb}
-use lib.ListN.{length}
+use lib.ListN.{length, length-map}
 use Rattle.rules.specs.Bytes.{pick, Name, eqName, nameAt, inside, after}
 use Rattle.rules.specs.Tables.{orElse, last, last-index, mapped}
 use Rattle.rules.specs.Read.{when, placesFrom, placesIn, nameIn, fieldAt, fieldsAt, structAt, functionAt, contractAt}
@@ -55,6 +56,15 @@ module _ (img : List ℕ) (x : ℕ) (r : Found) where
   pub storage-index-is : Named img x (storageIn img) r → indexOf r ≡ last-index fieldName 0 (nameAt img x) (contractAt img .storage)
   unfolding contractAt fieldsAt fieldAt
   storage-index-is h = rw (h .index) (index-map (fieldAt img) fieldName (nameIn img) (λ p. refl) (nameAt img x) 0 (storageIn img))
+
+-- as many as the tree has
+pub function-count-is : (img : List ℕ) → length (functionsIn img) ≡ length (contractAt img .functions)
+unfolding contractAt
+function-count-is img = sym (length-map (functionsIn img) (functionAt img))
+
+pub struct-count-is : (img : List ℕ) → length (structsIn img) ≡ length (contractAt img .structs)
+unfolding contractAt
+struct-count-is img = sym (length-map (structsIn img) (structAt img))
 
 -- a List is read k records far
 one-more : (k p : ℕ) (l : List ℕ) (b : Bool) → length l ≤ k → length (when b (λ _. p ∷ l) []) ≤ suc k
