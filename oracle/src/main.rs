@@ -1,0 +1,127 @@
+// The Rust as the judge: see README.md for the commands.
+extern crate self as bud_isa; // codegen.rs names the word crate so
+
+mod analysis;
+mod bench;
+mod bounds;
+mod cases;
+mod check;
+mod compare;
+mod damage;
+mod faults;
+mod foreign;
+mod gen;
+mod generation;
+mod grammar;
+mod groups;
+mod image;
+mod kept;
+mod model;
+mod node;
+mod places;
+mod rng;
+mod samples;
+mod selfcheck;
+mod store;
+mod tree;
+mod tricks;
+
+// The Rust, unchanged.
+#[allow(warnings)]
+mod ast {
+    include!(concat!(env!("OUT_DIR"), "/ast.rs"));
+}
+#[allow(warnings)]
+mod sema {
+    include!(concat!(env!("OUT_DIR"), "/sema.rs"));
+}
+#[allow(warnings)]
+mod codegen {
+    include!(concat!(env!("OUT_DIR"), "/codegen.rs"));
+}
+#[allow(warnings)]
+mod isa {
+    include!(concat!(env!("OUT_DIR"), "/isa.rs"));
+}
+#[allow(warnings)]
+mod error {
+    include!(concat!(env!("OUT_DIR"), "/error.rs"));
+}
+pub use error::CompileError;
+pub use isa::{Instruction, IsaProfile, Opcode};
+
+use std::process::exit;
+
+const USE: &str = "use: oracle [selfcheck N | gen SEED COUNT DIR | answer FILE [ROOM TABLE] | analyse FILE | text FILE | \
+listing PROGRAM N [SEED] | staticlib N [SEED] | bench [ROUNDS] | store DIR | replay FILE | samples DIR | kept]";
+
+type Said = Result<(), String>;
+
+fn main() {
+    let words: Vec<String> = std::env::args().skip(1).collect();
+    let words: Vec<&str> = words.iter().map(String::as_str).collect();
+    if let Err(line) = command(&words) {
+        eprintln!("oracle: {line}");
+        exit(1);
+    }
+}
+
+fn command(words: &[&str]) -> Said {
+    match words {
+        [] => selfcheck::run(50_000),
+        ["selfcheck"] => selfcheck::run(50_000),
+        ["selfcheck", n] => selfcheck::run(number(n)?),
+        ["gen", seed, count, dir] => generate(number(seed)?, number(count)?, dir),
+        ["answer", file] => answer(file, samples::ROOM, samples::TABLE),
+        ["answer", file, room, table] => answer(file, number(room)? as usize, number(table)? as usize),
+        ["analyse", file] => analyse(file),
+        ["text", file] => text(file),
+        ["listing", program, n] => selfcheck::listing(program, number(n)?, 0),
+        ["listing", program, n, seed] => selfcheck::listing(program, number(n)?, number(seed)?),
+        ["staticlib", n] => foreign::compare(number(n)?, 0),
+        ["staticlib", n, seed] => foreign::compare(number(n)?, number(seed)?),
+        ["bench"] => bench::run(9),
+        ["bench", rounds] => bench::run(number(rounds)?),
+        ["store", dir] => store::store(dir),
+        ["replay", file] => store::replay(file),
+        ["kept"] => kept::print(),
+        ["samples", dir] => store::samples(dir),
+        _ => Err(USE.into()),
+    }
+}
+
+fn number(x: &str) -> Result<u64, String> {
+    x.parse().map_err(|_| format!("{x} is no number"))
+}
+
+fn load(file: &str) -> Result<Vec<u8>, String> {
+    std::fs::read(file).map_err(|e| format!("{file}: {e}"))
+}
+
+fn save(file: &str, bytes: &[u8]) -> Said {
+    std::fs::write(file, bytes).map_err(|e| format!("{file}: {e}"))
+}
+
+fn generate(seed: u64, count: u64, dir: &str) -> Said {
+    std::fs::create_dir_all(dir).map_err(|e| format!("{dir}: {e}"))?;
+    (seed..seed + count).try_for_each(|s| save(&format!("{dir}/{s}.img"), &cases::image(s)))
+}
+
+fn answer(file: &str, room: usize, table: usize) -> Said {
+    print!("{}", store::listing(&load(file)?, room, table));
+    Ok(())
+}
+
+fn analyse(file: &str) -> Said {
+    match model::analysed(&load(file)?) {
+        Ok(()) => println!("analysed"),
+        Err(r) => println!("refused {} {} 0", r.number, r.place),
+    }
+    Ok(())
+}
+
+fn text(file: &str) -> Said {
+    let told = compare::rust_text(&load(file)?).map_err(|f| format!("the image check refuses it: {} at {}", f.number, f.place))?;
+    println!("{}", told.unwrap_or_default());
+    Ok(())
+}

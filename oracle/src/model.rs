@@ -1,0 +1,103 @@
+// Document 01's answers: check, analysis, 30, generation, room.
+use crate::analysis::{analyse, lists};
+use crate::check::{check, Fault};
+use crate::generation::{generate, positions, Program};
+use crate::image::*;
+
+/// A refusal with the Rust's text for it, in the form "Variant: text"; empty where the Rust has none.
+#[derive(Clone, Debug, PartialEq, Eq)]
+pub struct Refusal {
+    pub number: u32,
+    pub place: usize,
+    pub text: String,
+}
+
+impl From<Fault> for Refusal {
+    fn from(f: Fault) -> Self {
+        Refusal { number: f.number, place: f.place, text: String::new() }
+    }
+}
+
+/// The three numbers.
+#[derive(Clone, Copy, Debug, PartialEq, Eq)]
+pub struct Answer {
+    pub refusal: u32,
+    pub place: u32,
+    pub count: u32,
+}
+
+impl Answer {
+    pub fn of(r: &Refusal) -> Self {
+        Answer { refusal: r.number, place: r.place as u32, count: 0 }
+    }
+    /// Refusal + 256 x place + 2^32 x count.
+    pub fn packed(&self) -> u64 {
+        self.refusal as u64 + 256 * self.place as u64 + ((self.count as u64) << 32)
+    }
+}
+
+/// Analyse: stops before 30 and writes nothing.
+pub fn analysed(img: &[u8]) -> Result<(), Refusal> {
+    check(img)?;
+    analyse(img)
+}
+
+/// The first field access, in image order, whose offset two structs tell differently.
+pub fn ambiguous(img: &[u8]) -> Option<usize> {
+    let structs = lists(img).structs;
+    fn walk(img: &[u8], structs: &[Rec], r: Rec) -> Option<usize> {
+        if r.kind == FIELD_ACCESS && positions(img, structs, r.part(img, 1).bytes(img)).len() > 1 {
+            return Some(r.at);
+        }
+        if is_leaf(r.kind) {
+            None
+        } else {
+            r.parts(img).find_map(|p| walk(img, structs, p))
+        }
+    }
+    walk(img, &structs, rec_at(img, 0))
+}
+
+/// Everything that does not depend on the room.
+pub fn program(img: &[u8]) -> Result<Program, Refusal> {
+    analysed(img)?;
+    if let Some(place) = ambiguous(img) {
+        return Err(Refusal { number: 30, place, text: String::new() });
+    }
+    generate(img)
+}
+
+/// Build: fills the lent slices; the table holds three numbers an entry.
+pub fn build(p: &Result<Program, Refusal>, code: &mut [u64], table: &mut [u64]) -> Answer {
+    let a = answer(p, code.len(), Some(table.len()));
+    match p {
+        Ok(p) if a.refusal == 0 => {
+            code[..p.words.len()].copy_from_slice(&p.words);
+            table[..3 * p.table.len()].copy_from_slice(p.table.as_flattened());
+        }
+        _ => {
+            code.fill(0);
+            table.fill(0);
+        }
+    }
+    a
+}
+
+/// The host's entry: words as bytes, no table.
+pub fn host(p: &Result<Program, Refusal>, bytes: &mut [u8]) -> Answer {
+    let a = answer(p, bytes.len() / 8, None);
+    match p {
+        Ok(p) if a.refusal == 0 => p.words.iter().zip(bytes.chunks_exact_mut(8)).for_each(|(w, b)| b.copy_from_slice(&w.to_le_bytes())),
+        _ => bytes.fill(0),
+    }
+    a
+}
+
+fn answer(p: &Result<Program, Refusal>, room: usize, table: Option<usize>) -> Answer {
+    match p {
+        Err(r) => Answer::of(r),
+        Ok(p) if p.words.len() > room => Answer { refusal: 50, place: 0, count: p.words.len() as u32 },
+        Ok(p) if table.is_some_and(|t| p.table.len() > t / 3) => Answer { refusal: 51, place: 0, count: p.table.len() as u32 },
+        Ok(p) => Answer { refusal: 0, place: 0, count: p.words.len() as u32 },
+    }
+}

@@ -1,0 +1,201 @@
+// Stored answers: a flat file of cases for a replay without Rust (docs/STORED.md), and the samples.
+use crate::ast::Stmt;
+use crate::generation::Program;
+use crate::image::{encode, is_leaf, rec_at, u32_at, Rec};
+use crate::model::{analysed, build, program, Answer, Refusal};
+use crate::rng::Rng;
+use crate::samples::{ROOM, TABLE};
+use crate::selfcheck::EVERY;
+use crate::tree::{if_, int, main_of};
+use crate::{bounds, cases, compare, damage, samples, tricks};
+use std::collections::{BTreeMap, BTreeSet};
+
+const MAGIC: &[u8; 8] = b"HASPANS1";
+const HEADER: usize = 32;
+const CASE: usize = 48;
+const CODE_POISON: u64 = 0xA5A5_A5A5_A5A5_A5A5;
+const TABLE_POISON: u64 = 0x5A5A_5A5A_5A5A_5A5A;
+/// The first seed that is looked at.
+const SEED: u64 = 1_000_000;
+const SEEDS: u64 = 60_000;
+const LEAST: usize = 2_000;
+/// The most bytes of an image among the small and the larger cases.
+const SMALL: usize = 310;
+const LARGER: usize = 1_000;
+const WORSE: usize = 2_500;
+
+/// The answer as document 01's listing program prints it.
+pub fn listing(img: &[u8], room: usize, table: usize) -> String {
+    let mut code = vec![0; room];
+    let a = build(&program(img), &mut code, &mut vec![0; table]);
+    if a.refusal != 0 {
+        return format!("refused {} {} {}\n", a.refusal, a.place, a.count);
+    }
+    let mut out = format!("words {}\n", a.count);
+    code[..a.count as usize].iter().enumerate().for_each(|(i, w)| out.push_str(&format!("{i} {w:016x}\n")));
+    out
+}
+
+/// Writes C1 to C15 as images with their listings; C3's room is nine words.
+pub fn samples(dir: &str) -> Result<(), String> {
+    std::fs::create_dir_all(dir).map_err(|e| format!("{dir}: {e}"))?;
+    for s in samples::all() {
+        crate::save(&format!("{dir}/{}.img", s.name), &s.image)?;
+        crate::save(&format!("{dir}/{}.listing", s.name), listing(&s.image, s.room, s.table).as_bytes())?;
+    }
+    Ok(())
+}
+
+/// FNV-1a, 64 bits, over the little-endian bytes of the numbers.
+pub fn fnv(numbers: &[u64]) -> u64 {
+    let bytes = numbers.iter().flat_map(|n| n.to_le_bytes());
+    bytes.fold(0xCBF2_9CE4_8422_2325, |h, b| (h ^ b as u64).wrapping_mul(0x0000_0100_0000_01B3))
+}
+
+/// The cases chosen so far.
+#[derive(Default)]
+struct Stored {
+    bytes: Vec<u8>,
+    count: u32,
+    most: [usize; 3],
+    given: BTreeMap<u32, usize>,
+    built: BTreeSet<u16>,
+}
+
+pub fn store(dir: &str) -> Result<(), String> {
+    std::fs::create_dir_all(dir).map_err(|e| format!("{dir}: {e}"))?;
+    let mut all = Stored::default();
+    samples::all().iter().for_each(|s| all.case(&s.image, s.room.min(64), s.table.min(16)));
+    tricks::all().iter().for_each(|img| all.case(img, 128, 16));
+    all.changed(&samples::all()[0].image, &encode(&main_of(vec![Stmt::Return(None), if_(int(1), vec![], None)])));
+    for (_, img) in bounds::small().iter().chain(&bounds::large()[..2]) {
+        all.case(img, ROOM, TABLE);
+    }
+    let worse = bounds::worse();
+    let few = worse.iter().filter(|e| e.1.len() < WORSE).chain(worse.iter().filter(|e| e.0 == "513 Lets").nth(3));
+    few.for_each(|e| all.case(&e.1, 4, 6));
+    all.seeds();
+    all.complete()?;
+    crate::save(&format!("{dir}/answers.bin"), &[all.header(), all.bytes.clone()].concat())?;
+    println!("{} cases, {} bytes", all.count, all.bytes.len() + HEADER);
+    all.given.iter().for_each(|(n, k)| println!("{n:3} {k}"));
+    Ok(())
+}
+
+/// Reads a stored file again and holds it against the model.
+pub fn replay(file: &str) -> Result<(), String> {
+    let all = crate::load(file)?;
+    if all.len() < HEADER || all[..8] != *MAGIC || u32_at(&all, 12) as usize != all.len() {
+        return Err(format!("{file} is no file of stored answers"));
+    }
+    let count = u32_at(&all, 8);
+    let mut at = HEADER;
+    for n in 0..count {
+        let len = u32_at(&all, at) as usize;
+        let img = &all[at + CASE..at + CASE + len];
+        let mut again = Stored::default();
+        again.add(img, u32_at(&all, at + 4) as usize, u32_at(&all, at + 8) as usize, &program(img));
+        if again.bytes != all[at..at + CASE + len] {
+            return Err(format!("case {n} is answered otherwise: image {}", compare::hex(img)));
+        }
+        at += CASE + len;
+    }
+    println!("{count} cases equal");
+    Ok(())
+}
+
+impl Stored {
+    fn header(&self) -> Vec<u8> {
+        let mut out = MAGIC.to_vec();
+        let numbers = [self.count as usize, self.bytes.len() + HEADER, self.most[0], self.most[1], self.most[2], 0];
+        numbers.iter().for_each(|n| out.extend((*n as u32).to_le_bytes()));
+        out
+    }
+
+    fn case(&mut self, img: &[u8], room: usize, table: usize) {
+        self.add(img, room, table, &compare::hold(img));
+    }
+
+    fn add(&mut self, img: &[u8], room: usize, table: usize, p: &Result<Program, Refusal>) {
+        let (mut code, mut entries) = (vec![CODE_POISON; room], vec![TABLE_POISON; table]);
+        let a = build(p, &mut code, &mut entries);
+        let sema = analysed(img).map_or_else(|r| Answer::of(&r), |_| Answer { refusal: 0, place: 0, count: 0 });
+        let mut number = |n: u32| self.bytes.extend(n.to_le_bytes());
+        [img.len() as u32, room as u32, table as u32, a.refusal, a.place, a.count].into_iter().for_each(&mut number);
+        let sums = [fnv(&code), fnv(&entries)];
+        sums.iter().for_each(|s| [*s as u32, (*s >> 32) as u32].into_iter().for_each(&mut number));
+        [sema.refusal, sema.place].into_iter().for_each(&mut number);
+        self.bytes.extend(img);
+        self.count += 1;
+        for (most, n) in self.most.iter_mut().zip([img.len(), room, table]) {
+            *most = n.max(*most);
+        }
+        *self.given.entry(a.refusal).or_default() += 1;
+        if a.refusal == 0 {
+            self.kinds(img, rec_at(img, 0));
+        }
+    }
+
+    fn kinds(&mut self, img: &[u8], r: Rec) {
+        self.built.insert(r.kind);
+        if !is_leaf(r.kind) {
+            r.parts(img).for_each(|p| self.kinds(img, p));
+        }
+    }
+
+    // One image cut at each byte, one with each of its records changed.
+    fn changed(&mut self, c1: &[u8], other: &[u8]) {
+        (1..c1.len()).for_each(|n| self.case(&c1[..n], 4, 6));
+        damage::every(other).iter().for_each(|img| self.case(img, 12, 6));
+    }
+
+    // Small images from seeds, so many of each number, then a few larger ones.
+    fn seeds(&mut self) {
+        self.quotas(cases::tiny_image, SMALL, |n| if n == 0 { 600 } else { 40 });
+        self.quotas(cases::image, LARGER, |n| match n {
+            0 => 18,
+            6 => 12,
+            41 => 25,
+            _ => 2,
+        });
+    }
+
+    fn quotas(&mut self, image: fn(u64) -> Vec<u8>, most: usize, quota: fn(u32) -> usize) {
+        let mut left: BTreeMap<u32, usize> = EVERY.into_iter().map(|n| (n, quota(n))).collect();
+        for seed in SEED..SEED + SEEDS {
+            let img = image(seed);
+            let p = program(&img);
+            let number = p.as_ref().map_or_else(|r| r.number, |_| 0);
+            let left = left.get_mut(&number).expect("a number of document 01");
+            if *left > 0 && img.len() <= most {
+                *left -= 1;
+                let (words, numbers) = p.map_or((4, 6), |p| (p.words.len(), 3 * p.table.len()));
+                let (room, table) = rooms(&mut Rng::new(seed), words, numbers);
+                self.case(&img, room, table);
+            }
+        }
+    }
+
+    fn complete(&self) -> Result<(), String> {
+        let lacking: Vec<u32> = EVERY.into_iter().filter(|n| !self.given.contains_key(n)).collect();
+        let unused: Vec<u16> = (32..=42).chain(64..=71).filter(|k| !self.built.contains(k)).collect();
+        if self.count < LEAST as u32 || !lacking.is_empty() || !unused.is_empty() {
+            return Err(format!("{} cases, without {lacking:?}, without built kinds {unused:?}", self.count));
+        }
+        Ok(())
+    }
+}
+
+// Rooms for a program: mostly a few more than it needs; some exact, short or none.
+fn rooms(rng: &mut Rng, words: usize, numbers: usize) -> (usize, usize) {
+    match rng.below(12) {
+        0 => (words - 1, numbers),
+        1 => (words, numbers - 1),
+        2 => (words + 2, numbers - 3),
+        3 => (rng.below(words), rng.below(numbers)),
+        4 => (0, 0),
+        5 => (words, numbers),
+        6 => (words + 1, numbers + 1),
+        _ => (words + rng.below(5), numbers + rng.below(7)),
+    }
+}
