@@ -1,0 +1,64 @@
+use Prim.Native.Nat.{ℕ, _+_}
+use Rattle.emit.specs.State.{moved}
+use Rattle.emit.specs.Leaves.{took, took-not}
+use mathlib.Core.Path.{_≡_, refl, sym, ap, _∙_}
+use lib.ListN.{length-set}
+use native.Mathlib.Omega.{arith}
+use borrow.Author.Needs.{needs}
+use Rattle.emit.proofs.St.alloc_reg.Statement.{statement}
+use Rattle.emit.proofs.St.alloc_reg.Tie as tie
+use Rattle.emit.proofs.St.alloc_reg.Reads as reads
+use Rattle.emit.proofs.St.alloc_reg.Lts as lts
+use Rattle.emit.proofs.St.fail.Reads as fail-reads
+use Rattle.emit.proofs.St.with.Reads as with-reads
+use Rattle.emit.proofs.wide.Reads as wide-reads
+
+-- src/lib.rt:88:13
+wide-requires : tie.Need-wide-requires
+wide-requires c κs = search needs
+
+-- src/lib.rt:90:23
+cast-reg : tie.Need-cast-reg
+cast-reg c = search needs
+
+-- src/lib.rt:91:28
+add-with : tie.Need-add-with
+add-with c = search needs
+
+-- src/lib.rt:91:13
+with-requires : tie.Need-with-requires
+with-requires c κs = search needs
+
+-- src/lib.rt:93:17
+fail-requires : tie.Need-fail-requires
+fail-requires c κs = search needs
+
+-- src/lib.rt:94:33
+add-with-2 : tie.Need-add-with-2
+add-with-2 c = search needs
+
+-- src/lib.rt:94:13
+with-requires-2 : tie.Need-with-requires-2
+with-requires-2 c κs = search needs
+
+-- src/lib.rt:84:5
+returns : tie.Need-returns
+returns c = took _ _ _ _ (rw (c .before .before .wide .ensures) at (c .before .if1 .taken)) (c .with .ensures)
+
+-- src/lib.rt:84:5
+returns-2 : tie.Need-returns-2
+returns-2 c = took-not _ _ _ _ _ (rw (c .before .before .before .wide .ensures) at (c .before .before .if1 .left)) (c .before .fail .ensures) (c .with2 .ensures ∙ ap (λ (n : ℕ). moved (c .before .fail .result) (c .before .before .before .before .args .rules .free) (n + 1)) (c .before .before .before .wide .ensures))
+
+pub alloc-reg-spec : {M : Type 1} → statement M
+alloc-reg-spec =
+    tie.close
+    (tie.spec
+    wide-requires
+    cast-reg
+    add-with
+    with-requires
+    fail-requires
+    add-with-2
+    with-requires-2
+    returns
+    returns-2)

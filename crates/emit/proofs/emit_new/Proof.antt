@@ -1,0 +1,29 @@
+use Rattle.emit.specs.Leaves.{new-word}
+use lib.ListN.{length-set}
+use native.Mathlib.Omega.{arith}
+use borrow.Author.Needs.{needs}
+use Rattle.emit.proofs.emit_new.Statement.{statement}
+use Rattle.emit.proofs.emit_new.Tie as tie
+use Rattle.emit.proofs.emit_new.Reads as reads
+use Rattle.emit.proofs.emit_new.Lts as lts
+use Rattle.emit.proofs.St.alloc_reg.Reads as alloc-reg-reads
+use Rattle.emit.proofs.emit.Reads as emit-reads
+
+-- src/lib.rt:200:9
+alloc-reg-requires : tie.Need-alloc-reg-requires
+alloc-reg-requires c κs = search needs
+
+-- src/lib.rt:201:5
+emit-requires : tie.Need-emit-requires
+emit-requires c κs = search needs
+
+-- src/lib.rt:197:1
+same-length : tie.Need-same-length
+same-length c = search needs
+
+-- src/lib.rt:197:1
+returns : tie.Need-returns
+returns c = new-word _ _ _ _ _ _ _ _ _ _ _ (c .before .before .before .before .alloc-reg .ensures) (c .before .before .emit .ensures)
+
+pub emit-new-spec : {M : Type 1} → statement M
+emit-new-spec = tie.close (tie.spec alloc-reg-requires emit-requires same-length returns)

@@ -1,0 +1,31 @@
+use Rattle.emit.specs.Ran.{raw}
+use Rattle.emit.specs.Refines.{adds}
+use mathlib.Core.Path.{_≡_, refl, sym, ap, _∙_}
+use lib.ListN.{length-set}
+use native.Mathlib.Omega.{arith}
+use borrow.Author.Needs.{needs}
+use Rattle.emit.proofs.put.Statement.{statement}
+use Rattle.emit.proofs.put.Tie as tie
+use Rattle.emit.proofs.put.Reads as reads
+use Rattle.emit.proofs.put.Lts as lts
+use Rattle.emit.proofs.St.reserve.Reads as reserve-reads
+use Rattle.emit.proofs.patch.Reads as patch-reads
+
+-- src/lib.rt:184:5
+patch-requires : tie.Need-patch-requires
+patch-requires c κs = search needs
+
+-- src/lib.rt:185:5
+reserve-requires : tie.Need-reserve-requires
+reserve-requires c κs = search needs
+
+-- src/lib.rt:180:1
+same-length : tie.Need-same-length
+same-length c = search needs
+
+-- src/lib.rt:180:1
+returns : tie.Need-returns
+returns c = let k = c .reserve .ensures .reserved in record { ran = λ C o e. adds (raw C) o _ e (k .err) (k .place) (k .base) (k .grows) (λ z. (k .count z, c .before .before .before .patch .ensures)); count = k .count; next = c .reserve .ensures .next; reg = c .reserve .ensures .reg }
+
+pub put-spec : {M : Type 1} → statement M
+put-spec = tie.close (tie.spec patch-requires reserve-requires same-length returns)

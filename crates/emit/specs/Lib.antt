@@ -1,0 +1,9 @@
+pub mod Steps
+pub mod Window
+pub mod Ran
+pub mod State
+pub mod Laws
+pub mod Same
+pub mod Refines
+pub mod Leaves
+pub mod Agrees
