@@ -1,0 +1,7 @@
+-- What the proofs of several functions use.
+mod Dues
+mod Header
+mod Names
+mod Steps
+mod Turns
+mod Whole

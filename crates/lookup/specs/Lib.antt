@@ -1,0 +1,4 @@
+pub mod Answers
+pub mod Scope
+pub mod Places
+pub mod Results

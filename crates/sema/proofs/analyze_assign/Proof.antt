@@ -1,0 +1,68 @@
+-- analyze_assign meets its contract.
+-- Assumes nothing.
+use Rattle.bounds.specs.Sizes.{vars}
+use Rattle.lookup.specs.Answers.{faultOf, gotOf, typedOf}
+use Rattle.lookup.specs.Results.{known-none, known-some, then-bad}
+use Rattle.rules.specs.Analyse.{stmt}
+use Rattle.rules.specs.Read.{stmtAs}
+use Rattle.sema.proofs.Runs.{first-bad, first-ok, still-bad}
+use mathlib.Core.Path.{_∙_, ap, sym}
+use borrow.Author.Needs.{needs}
+use Rattle.sema.proofs.analyze_assign.Statement.{statement}
+use Rattle.sema.proofs.analyze_assign.Tie as tie
+
+body-requires : tie.Need-body-requires
+body-requires c κs = search needs
+
+find-local-requires : tie.Need-find-local-requires
+find-local-requires c κs = search needs
+
+enum-known-g : tie.Need-enum-known-g
+enum-known-g c = search needs
+
+past-requires : tie.Need-past-requires
+past-requires c κs = search needs
+
+analyze-expr-requires : tie.Need-analyze-expr-requires
+analyze-expr-requires c κs = c .before .before .before .before .before .before .before .before .before .pre
+
+enum-known-t : tie.Need-enum-known-t
+enum-known-t c = search needs
+
+assigned-requires : tie.Need-assigned-requires
+assigned-requires c κs = search needs
+
+enum-known-t-2 : tie.Need-enum-known-t-2
+enum-known-t-2 c = search needs
+
+enum-told : tie.Need-enum-told
+enum-told c = search needs
+
+returns : tie.Need-returns
+unfolding stmt stmtAs vars typedOf gotOf
+returns c = first-ok _ (known-some _ (sym (ap (gotOf (c .before .before .before .before .before .before .before .before .before .before .before .before .before .before .args .img .now)) (c .before .before .before .before .before .before .before .g .given .1)) ∙ rw (c .before .before .before .before .before .before .before .before .before .before .body .ensures .0) at (c .before .before .before .before .before .before .before .before .before .find-local .ensures))) (first-ok _ (sym (ap (typedOf (c .before .before .before .before .before .before .before .before .before .before .before .before .before .before .args .img .now)) (c .before .before .t .given .1)) ∙ rw (c .before .before .before .before .before .past .ensures .0, c .before .before .before .before .before .before .before .before .before .before .body .ensures .0) at (c .before .before .before .before .analyze-expr .ensures)) (c .assigned .ensures (c .before .before .before .before .before .before .before .before .before .before .before .before .before .before .args .env .now)))
+
+returns-2 : tie.Need-returns-2
+unfolding stmt stmtAs vars typedOf gotOf
+returns-2 c = first-ok _ (known-some _ (sym (ap (gotOf (c .before .before .before .before .before .before .before .before .before .before .before .before .before .args .img .now)) (c .before .before .before .before .before .before .g .given .1)) ∙ rw (c .before .before .before .before .before .before .before .before .before .body .ensures .0) at (c .before .before .before .before .before .before .before .before .find-local .ensures))) (first-bad _ (sym (ap (typedOf (c .before .before .before .before .before .before .before .before .before .before .before .before .before .args .img .now)) (c .before .t2 .given .1)) ∙ rw (c .before .before .before .before .past .ensures .0, c .before .before .before .before .before .before .before .before .before .body .ensures .0) at (c .before .before .before .analyze-expr .ensures)))
+
+returns-3 : tie.Need-returns-3
+unfolding stmt stmtAs vars faultOf gotOf
+returns-3 c = still-bad (rw (c .before .before .before .body .ensures .0) (then-bad _ (known-none _ (sym (ap (gotOf (c .before .before .before .before .before .before .before .args .img .now)) (c .enum-told .given .1)) ∙ rw (c .before .before .before .body .ensures .0) at (c .before .before .find-local .ensures)))))
+
+pub analyze-assign-spec : {M : Type 1} → statement M
+analyze-assign-spec =
+    tie.close
+    (tie.spec
+    body-requires
+    find-local-requires
+    enum-known-g
+    past-requires
+    analyze-expr-requires
+    enum-known-t
+    assigned-requires
+    enum-known-t-2
+    enum-told
+    returns
+    returns-2
+    returns-3)
