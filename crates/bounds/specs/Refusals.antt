@@ -125,7 +125,7 @@ module _ (R : Rules) (C : Contract) where
   functions-told i [] = told-ok _
   functions-told i (f ∷ fs) = told-bind _ _ (function-told f) (λ c. told-bind _ _ (functions-told _ fs) (λ r. told-ok _))
 
-  generate-told : Told (generate R C)
+  pub generate-told : Told (generate R C)
   unfolding generate with-main numberOf refused
   generate-told = with (last _ _ (C .functions)) (told-bind _ _ (functions-told 3 (C .functions)) (λ b. told-ok _))
     where

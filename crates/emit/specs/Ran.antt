@@ -63,12 +63,14 @@ pub record Reserved (s r : Tally) : Type 0 where
   pub base : r .base ≡ s .base
   pub grows : s .n ≤ r .n
   pub count : r .n < 4294967295 → r .n ≡ s .n + 1
+  pub low : s .n + 1 < 4294967295 → r .n < 4294967295
 
 module _ (raw : Open → ℕ) where
   -- The count stops at 2^32 - 1: below that all is exact.
   pub record Good {A : Type 0} (s : Tally) (c : List ℕ) (r : Tally) (c' : List ℕ) (v : A) (o : Out A) : Type 0 where
     pub fine : r .err ≡ 0
     pub seen : v ≡ o .val
+    pub low : s .n + length (o .words) < 4294967295 → r .n < 4294967295
     pub index : r .n < 4294967295 → r .n ≡ s .n + length (o .words)
     pub code : r .n < 4294967295 → c' ≡ laid (s .base) (s .n) (map raw (o .words)) c
 

@@ -49,6 +49,9 @@ module _ (raw : Open → ℕ) where
   then {A} {B} {s} {a} {b} {c} {c1} {c2} {v} {w} {o} g l e (went o2 h) = went (record { val = o2 .val; words = o .words ++ o2 .words }) (record {
     fine = h .fine;
     seen = h .seen;
+    low = λ z.
+        let l = g .low (omega (arith, z, length-append (o .words) (o2 .words))) in
+        h .low (omega (arith, z, l, g .index l, length-append (o .words) (o2 .words)));
     index = λ z. omega (arith, g .index (omega arith), h .index z, length-append (o .words) (o2 .words));
     code = λ z.
         h .code z
@@ -82,6 +85,7 @@ module _ (raw : Open → ℕ) where
     run = λ h. went (record { val = g; words = [] }) (record {
       fine = ap (λ (x : Tally). x .err) e ∙ h;
       seen = f;
+      low = λ z. omega (arith, ap (λ (x : Tally). x .n) e);
       index = λ z. omega (arith, ap (λ (x : Tally). x .n) e);
       code = λ z. refl;
     });
@@ -91,13 +95,14 @@ module _ (raw : Open → ℕ) where
 
   -- a number w is put where it is the word o
   pub adds : {s r : Tally} {c c' : List ℕ} (o : Open) (w : ℕ) → w ≡ raw o → r .err ≡ s .err → r .place ≡ s .place → r .base ≡ s .base → s .n ≤ r .n
-      → (r .n < 4294967295 → (r .n ≡ s .n + 1) × (c' ≡ emitted (s .base) (s .n) w c)) → Ran raw s c r c' tt (say (o ∷ []))
+      → (s .n + 1 < 4294967295 → r .n < 4294967295) → (r .n < 4294967295 → (r .n ≡ s .n + 1) × (c' ≡ emitted (s .base) (s .n) w c)) → Ran raw s c r c' tt (say (o ∷ []))
   unfolding say laid
-  adds {s} {r} {c} {c'} o w x e p b l h = record {
+  adds {s} {r} {c} {c'} o w x e p b l f h = record {
     keep = λ z. (e, p);
     run = λ z. went (record { val = tt; words = o ∷ [] }) (record {
       fine = e ∙ z;
       seen = refl;
+      low = f;
       index = λ y. h y .0;
       code = λ y. h y .1 ∙ ap (λ (i : ℕ). emitted (s .base) (s .n) i c) x;
     });
@@ -158,6 +163,9 @@ module _ (raw : Open → ℕ) where
   behind-slot {A} {s} {j} {r} {c} {c2} {c3} {v} {x} f (ok o) k l (went _ g) e p = went (record { val = o .val; words = f (length (o .words)) ∷ o .words }) (record {
     fine = g .fine;
     seen = g .seen;
+    low = λ z.
+        let i = k .low (omega (arith, z)) in
+        g .low (omega (arith, z, k .count i));
     index = λ z. omega (arith, g .index z, k .count (omega (arith, l, z)));
     code = λ z.
         let i : j .n ≡ suc (s .n) = omega (arith, k .count (omega (arith, l, z))) in
@@ -195,12 +203,19 @@ module _ (raw : Open → ℕ) where
   closed-up {s} {f} {c} {c'} {w} e p o (ok q) k (went _ g) = went (record { val = q .val; words = loops p (o .val .reg) (o .words) (q .words) }) (record {
     fine = g .fine;
     seen = g .seen;
+    low = λ z. g .low (omega (arith, z, long));
     index = λ z. g .index z ∙ ap (λ (l : List Open). s .n + length l) (same z);
     code = λ z. g .code z ∙ ap (λ (l : List Open). laid (s .base) (s .n) (map raw l) c) (same z);
   })
     where
       all : ℕ → ℕ → List Open
       all i d = o .words ++ (jnz p (o .val .reg) ∷ jmp p i ∷ (q .words ++ (back p d ∷ [])))
+
+      sized : (i d : ℕ) → length (all i d) ≡ length (o .words) + 3 + length (q .words)
+      sized i d = omega (arith, length-append (o .words) (jnz p (o .val .reg) ∷ jmp p i ∷ (q .words ++ (back p d ∷ []))), length-append (q .words) (back p d ∷ []))
+
+      long : length (all (length (q .words ++ (back p (e .n - s .n) ∷ [])) + 1) (e .n - s .n)) ≡ length (all (length (q .words) + 2) (length (o .words) + 2 + length (q .words)))
+      long = sized _ _ ∙ sym (sized _ _)
 
       past : length (q .words ++ (back p (e .n - s .n) ∷ [])) + 1 ≡ length (q .words) + 2
       past = omega (arith, length-append (q .words) (back p (e .n - s .n) ∷ []))
@@ -247,5 +262,5 @@ module _ (raw : Open → ℕ) where
   }
     where
       go : (m : Res (Out A)) → Case raw s d a d' v m → Case raw s c r c v (behind (λ ws. []) m)
-      go (ok o) (went _ g) = went (record { val = o .val; words = [] }) (record { fine = e ∙ g .fine; seen = g .seen; index = λ z. omega (arith, n); code = λ z. refl })
+      go (ok o) (went _ g) = went (record { val = o .val; words = [] }) (record { fine = e ∙ g .fine; seen = g .seen; low = λ z. omega (arith, n, z); index = λ z. omega (arith, n); code = λ z. refl })
       go (bad q) (refused _ x y z) = refused q (e ∙ x) (f ∙ y) z

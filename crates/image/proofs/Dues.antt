@@ -3,12 +3,12 @@
 use mathlib.Core.Path.{_≡_, _∙_, refl, sym, ap}
 use mathlib.Core.Bool.{Bool, true, false}
 use mathlib.Core.List.{List, [], _∷_}
-use Prim.Native.Nat.{ℕ, zero, suc, _+_, _-_, _*_, _/_, _%_, _≤_, _<_, zero-le}
+use Prim.Native.Nat.{ℕ, zero, suc, _+_, _-_, _/_, _%_, _≤_, _<_, zero-le}
 use native.Mathlib.Omega.{arith}
 use native.Mathlib.Numerals.{add-one}
 use borrow.Author.Tests.{le-leb, lt-leb, leb-true, leb-false}
 use lib.Dec.{T, leb, eqb, leb→le}
-use lib.ListN.{length, getD, drop, List·getD-eq-default}
+use lib.ListN.{getD, drop, List·getD-eq-default}
 use Rattle.rules.specs.Bytes.{pick, _and_}
 use Rattle.rules.specs.Grammar.{classes, classOf, records, statements, expressions, partsOf, partOf, dueAt}
 use Rattle.rules.specs.declared.Class.{Class}

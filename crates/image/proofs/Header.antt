@@ -1,12 +1,12 @@
 -- The tests of a record's header: which refusal they give, and what holds where they give none.
 -- Assumes nothing.
-use mathlib.Core.Path.{_≡_, refl, sym, subst}
+use mathlib.Core.Path.{_≡_, refl, subst}
 use mathlib.Core.Bool.{Bool, true, false, not}
-use mathlib.Core.List.{List, [], _∷_}
+use mathlib.Core.List.{List}
 use Prim.Native.Nat.{ℕ, suc, _+_, _-_, _≤_, _<_}
 use native.Mathlib.Omega.{arith}
 use borrow.Author.Tests.{ltb-false, eqb-false}
-use lib.Dec.{T, ltb, leb, eqb}
+use lib.Dec.{T, ltb, eqb}
 use Rattle.rules.specs.Bytes.{kindAt, endAt, pick, le32, _or_}
 use Rattle.rules.specs.Check.{unframed, undue, crowded, ownOf, headerOf, refusalOf}
 

@@ -3,5 +3,6 @@ mod Dues
 mod Header
 mod Names
 mod Steps
+mod Swar
 mod Turns
 mod Whole

@@ -1,19 +1,16 @@
 -- The steps of the check of a record: what its definition says at each way that the code goes.
 -- Assumes nothing.
-use mathlib.Core.Path.{_≡_, _∙_, refl, sym, ap, subst}
+use mathlib.Core.Path.{_≡_, _∙_, refl, sym, subst}
 use mathlib.Core.Bool.{Bool, true, false}
 use mathlib.Core.List.{List}
-use Prim.Native.Nat.{ℕ, zero, suc, _+_, _-_, _≤_, _<_}
+use Prim.Native.Nat.{ℕ, zero, suc, _+_, _-_, _<_}
 use native.Mathlib.Omega.{arith}
-use borrow.Author.Tests.{eq-eqb, ne-eqb, lt-ltb, le-ltb, ltb-true, ltb-false, eqb-true, eqb-false}
+use borrow.Author.Tests.{eq-eqb, ne-eqb, lt-ltb, le-ltb, ltb-true, ltb-false, eqb-true}
 use lib.Dec.{T, eqb, ltb}
-use lib.ListN.{length}
-use Rattle.rules.specs.Bytes.{pick, le32, kindAt, endAt, _or_}
-use Rattle.rules.specs.Grammar.{Contract, classOf, expressions, partsOf, partOf, dueAt}
-use Rattle.rules.specs.Check.{undue, counts, headerOf, refusalOf, varsIn, startOf, ended, Child, andThen, childrenOf, recordBy, recordOf, wholeOf, checkOf}
-use Rattle.rules.specs.declared.Seen.{Seen}
+use Rattle.rules.specs.Bytes.{pick, kindAt, endAt, _or_}
+use Rattle.rules.specs.Grammar.{classOf, expressions, partsOf, partOf, dueAt}
+use Rattle.rules.specs.Check.{undue, counts, headerOf, refusalOf, varsIn, startOf, ended, Child, andThen, childrenOf, recordBy, recordOf}
 use Rattle.rules.specs.declared.Seen.the-variants.{Sound, Fault}
-use Rattle.image.specs.Rows.{duesOf}
 use Rattle.image.specs.Within.{leaf, partsIn}
 use Rattle.image.proofs.Dues.{by-cases, none-low}
 use Rattle.image.proofs.Header.{or-false, passed, sound-header}

@@ -8,10 +8,9 @@ use native.Mathlib.Omega.{arith}
 use Rattle.rules.specs.Bytes.{le32, kindAt, endAt}
 use Rattle.rules.specs.Grammar.{dueAt}
 use Rattle.rules.specs.Check.{headerOf, refusalOf, varsIn, ended, childrenOf, recordOf}
-use Rattle.rules.specs.declared.Seen.{Seen}
 use Rattle.rules.specs.declared.Seen.the-variants.{Sound, Fault}
 use Rattle.image.specs.Rows.{duesOf, further}
-use Rattle.image.specs.Within.{leaf, partsIn, Ends}
+use Rattle.image.specs.Within.{leaf, partsIn}
 use Rattle.image.proofs.Dues.{due-first, due-rest}
 use Rattle.image.proofs.Header.{sound-header}
 use Rattle.image.proofs.Steps.{record-refused, part-leaf, part-open, parts-ended, parts-left, parts-fault, parts-more}

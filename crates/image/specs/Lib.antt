@@ -1,2 +1,3 @@
+pub mod Names
 pub mod Rows
 pub mod Within

@@ -1,8 +1,10 @@
 // Readers of what is there: the caller has seen that the bytes are, so that a number is one load.
 ghost use mathlib.Core.Path.{_≡_};
-ghost use Prim.Native.Nat.{_+_, _-_, _≤_, _<_};
+ghost use mathlib.Core.Bool.{true};
+ghost use Prim.Native.Nat.{_+_, _-_, _≤_, _<_, min};
 ghost use lib.ListN.{length};
 ghost use Rattle.rules.specs.Bytes.{le16, le32, nameByte, nameFrom};
+ghost use Rattle.image.specs.Names.{Fours};
 
 pub fn wide(x: u8) -> usize
     ensures { λ r. ⌜ (r ≡ x) × (r < 256) ⌝ }
@@ -51,8 +53,8 @@ fn name_byte(x: usize) -> bool
     x <= 122
 }
 
-// The bytes from one place up to another are bytes of a name.
-pub fn all_name(s: &[u8], from: usize, to: usize) -> bool
+// The bytes from one place up to another are bytes of a name, one by one.
+fn each_name(s: &[u8], from: usize, to: usize) -> bool
     requires { ⌜ to ≤ length (now s) ⌝ }
     ensures { λ r. ⌜ r ≡ nameFrom (now (s .entry)) from (to - from) ⌝ }
 {
@@ -65,4 +67,50 @@ pub fn all_name(s: &[u8], from: usize, to: usize) -> bool
         }
     }
     true
+}
+
+// Four bytes at each of two places are bytes of a name, if this says so. The top bit of each byte is what counts: none has it, and of the eight
+// ends of the ranges of name bytes (48, 59, 65, 91, 95, 96, 97, 123) each has passed an odd number, told by sums with no carry.
+fn fours_name(s: &[u8], p: usize, q: usize) -> bool
+    requires { ⌜ (p + 4 ≤ length (now s)) × (q + 4 ≤ length (now s)) ⌝ }
+    ensures { λ r. ⌜ (r ≡ true → Fours (now (s .entry)) p q) ⌝ }
+{
+    let w = word(s, p) + 4294967296 * word(s, q);
+    if w & 0x8080808080808080 != 0 {
+        return false;
+    }
+    let a = (w + 0x5050505050505050) ^ (w + 0x4545454545454545);
+    let b = (w + 0x3f3f3f3f3f3f3f3f) ^ (w + 0x2525252525252525);
+    let c = (w + 0x2121212121212121) ^ (w + 0x2020202020202020);
+    let d = (w + 0x1f1f1f1f1f1f1f1f) ^ (w + 0x0505050505050505);
+    (a ^ b ^ (c ^ d)) & 0x8080808080808080 == 0x8080808080808080
+}
+
+fn least(a: usize, b: usize) -> usize
+    ensures { λ r. ⌜ r ≡ min a b ⌝ }
+{
+    if a < b { a } else { b }
+}
+
+// The same of all the bytes, eight at a time; the last eight may have been seen in part. What that does not tell is told one by one.
+pub fn all_name(s: &[u8], from: usize, to: usize) -> bool
+    requires { ⌜ (from ≤ to) × (to ≤ length (now s)) ⌝ }
+    ensures { λ r. ⌜ r ≡ nameFrom (now (s .entry)) from (to - from) ⌝ }
+{
+    if to - from < 4 {
+        return each_name(s, from, to);
+    }
+    let mut p = from;
+    while p + 8 < to {
+        if fours_name(s, p, p + 4) {
+            p += 8;
+        } else {
+            return each_name(s, from, to);
+        }
+    }
+    let q = least(p, to - 4);
+    if fours_name(s, q, to - 4) {
+        return true;
+    }
+    each_name(s, from, to)
 }

@@ -25,7 +25,7 @@ same-length c = search needs
 
 -- src/lib.rt:180:1
 returns : tie.Need-returns
-returns c = let k = c .reserve .ensures .reserved in record { ran = λ C o e. adds (raw C) o _ e (k .err) (k .place) (k .base) (k .grows) (λ z. (k .count z, c .before .before .before .patch .ensures)); count = k .count; next = c .reserve .ensures .next; reg = c .reserve .ensures .reg }
+returns c = let k = c .reserve .ensures .reserved in record { ran = λ C o e. adds (raw C) o _ e (k .err) (k .place) (k .base) (k .grows) (k .low) (λ z. (k .count z, c .before .before .before .patch .ensures)); count = k .count; next = c .reserve .ensures .next; reg = c .reserve .ensures .reg }
 
 pub put-spec : {M : Type 1} → statement M
 put-spec = tie.close (tie.spec patch-requires reserve-requires same-length returns)

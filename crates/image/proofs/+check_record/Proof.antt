@@ -1,13 +1,11 @@
 -- `image::check_record`: the parts from the k-th on decide as all of them did at the start (`Walk`).
 -- Assumes nothing.
-use mathlib.Core.Path.{_≡_, _∙_, refl, sym, ap, subst}
+use mathlib.Core.Path.{_∙_, refl, sym, ap, subst}
 use native.Mathlib.Omega.{arith}
-use Rattle.rules.specs.Bytes.{le32, kindAt}
-use Rattle.rules.specs.Check.{headerOf, refusalOf, varsIn, ended}
-use Rattle.image.specs.Within.{leaf, partsIn, Ends}
+use Rattle.image.specs.Within.{leaf, Ends}
 use Rattle.image.proofs.Turns.{Walk, walk-start, turn-ended, turn-left, turn-refused, framed-part, turn-leaf, turn-in, turn-past}
 use borrow.Author.Needs.{needs}
-use Prim.Native.Nat.{ℕ, _+_, _-_, _%_, _≤_, _<_}
+use Prim.Native.Nat.{ℕ, _+_, _-_, _<_}
 use borrow.Fn.Kinds.{In}
 use borrow.Fn.PlainCycle.{Measures, is, falls, and}
 use Rattle.image.proofs.check_record.Reads as check-record

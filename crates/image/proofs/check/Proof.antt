@@ -1,7 +1,7 @@
 -- `image::check`: each return by what the Contract's header and its parts gave.
 -- Assumes nothing.
-use mathlib.Core.Path.{_∙_, sym, ap, subst}
-use Prim.Native.Nat.{ℕ, _+_}
+use mathlib.Core.Path.{_∙_, sym, subst}
+use Prim.Native.Nat.{_+_}
 use native.Mathlib.Omega.{arith}
 use lib.ListN.{length}
 use Rattle.image.specs.Within.{Ends}

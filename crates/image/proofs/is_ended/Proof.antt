@@ -1,7 +1,7 @@
 -- `image::is_ended`: each return by its tests.
 -- Assumes nothing.
 use mathlib.Core.Path.{ap}
-use borrow.Author.Tests.{le-leb, lt-leb, lt-ltb, le-ltb, eq-eqb, ne-eqb}
+use borrow.Author.Tests.{eq-eqb, ne-eqb}
 use borrow.Author.Needs.{needs}
 use Rattle.image.specs.declared.grammar.Row.{Row}
 use Rattle.rules.specs.Check.{ended}

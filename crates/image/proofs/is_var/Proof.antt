@@ -1,7 +1,6 @@
 -- `image::is_var`: each return by its tests.
 -- Assumes nothing.
-use native.Mathlib.Omega.{arith}
-use borrow.Author.Tests.{le-leb, lt-leb, lt-ltb, le-ltb, eq-eqb, ne-eqb}
+use borrow.Author.Tests.{eq-eqb, ne-eqb}
 use Rattle.rules.specs.Check.{counts}
 use Rattle.image.proofs.is_var.Statement.{statement}
 use Rattle.image.proofs.is_var.Tie as tie

@@ -1,12 +1,10 @@
 -- `image::not_due`: each return by its tests, at the row of the class.
 -- Assumes nothing.
 use mathlib.Core.Path.{ap}
-use native.Mathlib.Omega.{arith}
-use borrow.Author.Tests.{le-leb, lt-leb, lt-ltb, le-ltb, eq-eqb, ne-eqb}
+use borrow.Author.Tests.{lt-ltb, le-ltb}
 use borrow.Author.Needs.{needs}
 use Rattle.image.specs.declared.grammar.Row.{Row}
 use Rattle.rules.specs.Check.{undue}
-use Rattle.rules.specs.Grammar.{classOf}
 use Rattle.image.proofs.not_due.Statement.{statement}
 use Rattle.image.proofs.not_due.Tie as tie
 

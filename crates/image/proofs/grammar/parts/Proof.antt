@@ -1,8 +1,7 @@
 -- `image::grammar::parts`: each arm is a row of the definition's tables; any other kind has no part.
 -- Assumes nothing.
-use mathlib.Core.Path.{_≡_, refl, sym, ap}
-use mathlib.Core.List.{[]}
-use Prim.Native.Nat.{ℕ, suc, _≤_, _<_}
+use mathlib.Core.Path.{_≡_, refl}
+use Prim.Native.Nat.{ℕ, suc, _≤_}
 use native.Mathlib.Omega.{arith}
 use Rattle.rules.specs.Bytes.{pick}
 use Rattle.rules.specs.Grammar.{records, statements, expressions, partsOf}

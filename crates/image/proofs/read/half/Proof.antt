@@ -1,8 +1,6 @@
 -- `image::read::half`: the bytes are there.
 -- Assumes nothing.
-use Rattle.rules.specs.Bytes.{le16, le32}
-use mathlib.Core.Path.{sym}
-use native.Mathlib.Omega.{arith}
+use Rattle.rules.specs.Bytes.{le16}
 use borrow.Author.Needs.{needs}
 use Rattle.image.proofs.read.half.Statement.{statement}
 use Rattle.image.proofs.read.half.Tie as tie

@@ -2,7 +2,6 @@
 -- Assumes nothing.
 use native.Mathlib.Omega.{arith}
 use borrow.Author.Tests.{le-leb, lt-leb, eq-eqb, ne-eqb}
-use borrow.Author.Needs.{needs}
 use Rattle.rules.specs.Bytes.{nameByte}
 use Rattle.image.proofs.read.name_byte.Statement.{statement}
 use Rattle.image.proofs.read.name_byte.Tie as tie

@@ -1,0 +1,267 @@
+-- The walk, an expression at a time: what its parts did is what the definition does.
+-- Assumes nothing.
+use mathlib.Core.Path.{_≡_, refl, sym, ap, _∙_, subst}
+use mathlib.Core.Bool.{Bool, true, false}
+use mathlib.Core.List.{List, [], _∷_, map}
+use mathlib.Core.Option.{Option, none, some}
+use Prim.Native.Nat.{ℕ, zero, suc, _+_, _-_, _*_, _%_, _≤_, _<_}
+use native.Mathlib.Numerals.{sub-one}
+use native.Mathlib.Omega.{arith}
+use lib.ListN.{length, getD, set, length-set}
+use lib.Seq.{getD-set-same, getD-set-other}
+use borrow.Author.Tests.{ne-eqb, lt-ltb, le-ltb}
+use Rattle.isa.specs.declared.Opcode.{Opcode}
+use Rattle.isa.specs.declared.Opcode.the-variants as op
+use Rattle.rules.specs.Bytes.{pick, Name, nameAt, inside, after, kindAt, intAt, opAt}
+use Rattle.rules.specs.Tree.{Expr, Exprs, Inits, Contract}
+use Rattle.rules.specs.Read.{Kind, kInt, kIdent, kStorage, kMapping, kAccess, kLiteral, kBinary, kCall, kOther, kindOf, exprsFrom, initsFrom, binOpOf, exprAs, exprAt, second, third, nameIn, contractAt}
+use Rattle.rules.specs.Refusal.{Refusal, Res, refused, numberOf, placeOf}
+use Rattle.rules.specs.Builtins.{Builtin, builtin}
+use Rattle.rules.specs.Layout.{offset}
+use Rattle.rules.specs.Machine.{Imm, bitsOf}
+use Rattle.rules.specs.Emit.{Open, Scope, opcode, emit, add, At-reg, arg}
+use Rattle.rules.specs.Generate.{alloc-reg}
+use Rattle.emit.specs.declared.St.{St}
+use Rattle.emit.specs.declared.Rules.{Rules}
+use Rattle.emit.specs.Steps.{Out, Regs, _>>=_, done, say, ask, behind, at, gen, gens, gen-inits, gen-call, gen-number}
+use Rattle.emit.specs.Ran.{raw, Ran}
+use Rattle.emit.specs.State.{rulesOf, tally, moved, Takes, Emits, News}
+use Rattle.emit.specs.Refines.{seq, still, renewed, unheard}
+use Rattle.emit.specs.Leaves.{ends-at}
+use Rattle.expr.specs.declared.Slot.{Slot}
+use Rattle.expr.specs.declared.names.Builtin as known
+use Rattle.expr.specs.declared.names.Builtin.the-variants as named
+use Rattle.expr.specs.declared.steps.Value.{Value}
+use Rattle.expr.specs.declared.steps.Several.{Several}
+use Rattle.expr.specs.Scope.{scopeIn}
+use Rattle.expr.specs.Names.{builtinOf, functionIn}
+use Rattle.expr.specs.Steps.{Finds, Slots}
+use Rattle.expr.specs.Values.{valueOf, valuesIn, Ends, Says, CallEnds, pushed, numbered, combined, mapping-read, literal-end, call-end}
+use Rattle.expr.specs.Made.{Gives, Made, Gathers, Argued, Inited, argsAt, Called, Asked, Plain, Idents}
+use Rattle.expr.proofs.Values.{cellsAt, values-none, values-more}
+use Rattle.expr.proofs.Chain.{is-small, heap-copy}
+use Rattle.expr.proofs.Fields.{any-place}
+
+-- What stands at a place, by its kind.
+pub at-zero : (d : ℕ) (img : List ℕ) (i : ℕ) → d ≡ 0 → exprAt d img i ≡ Expr.no-expr i
+unfolding exprAt
+at-zero zero img i e = refl
+at-zero (suc d) img i e = absurd (omega (arith, e))
+
+pub at-kind : (d : ℕ) (img : List ℕ) (i k : ℕ) (K : Kind) → (d ≡ 0 → ⊥) → k ≡ kindAt img i → kindOf k ≡ K → exprAt d img i ≡ exprAs K (exprAt (d - 1) img) img i
+unfolding exprAt
+at-kind zero img i k K h e q = absurd (h refl)
+at-kind (suc d) img i k K h e q = rw (← e, q) (simp sub-one)
+
+pub kind-other : (k : ℕ) → (k ≡ 64 → ⊥) → (k ≡ 65 → ⊥) → (k ≡ 66 → ⊥) → (k ≡ 67 → ⊥) → (k ≡ 68 → ⊥) → (k ≡ 69 → ⊥) → (k ≡ 70 → ⊥) → (k ≡ 71 → ⊥) → kindOf k ≡ kOther
+unfolding kindOf pick
+kind-other k a b c d e f g h = simp (ne-eqb _ _ a, ne-eqb _ _ b, ne-eqb _ _ c, ne-eqb _ _ d, ne-eqb _ _ e, ne-eqb _ _ f, ne-eqb _ _ g, ne-eqb _ _ h)
+
+-- Lists, a record at a time.
+module _ (R : Rules) (C : Contract) (f : ℕ → Expr) (img : List ℕ) (sc : Scope) (n : ℕ) where
+  pub args-zero : (k p e : ℕ) → k ≡ 0 → gens (rulesOf R) C (exprsFrom k f img p e) sc n ≡ done (record { regs = []; next = n })
+  unfolding gens exprsFrom
+  args-zero zero p e h = refl
+  args-zero (suc k) p e h = absurd (omega (arith, h))
+
+  pub args-end : (k p e : ℕ) → e ≤ p → gens (rulesOf R) C (exprsFrom k f img p e) sc n ≡ done (record { regs = []; next = n })
+  unfolding gens exprsFrom
+  args-end zero p e h = refl
+  args-end (suc k) p e h = simp (le-ltb _ _ h)
+
+  pub args-more : (k p e : ℕ) → (k ≡ 0 → ⊥) → p < e → gens (rulesOf R) C (exprsFrom k f img p e) sc n
+      ≡ (gen (rulesOf R) C (f p) sc n >>= λ v. gens (rulesOf R) C (exprsFrom (k - 1) f img (after img p) e) sc (v .next) >>= λ vs. done (record { regs = v ∷ vs .regs; next = vs .next }))
+  unfolding gens exprsFrom
+  args-more zero p e h l = absurd (h refl)
+  args-more (suc k) p e h l = simp (lt-ltb _ _ l, sub-one)
+
+  pub inits-zero : (k p e : ℕ) → k ≡ 0 → gen-inits (rulesOf R) C (initsFrom k f img p e) sc n ≡ done (record { regs = []; next = n })
+  unfolding gen-inits initsFrom
+  inits-zero zero p e h = refl
+  inits-zero (suc k) p e h = absurd (omega (arith, h))
+
+  pub inits-end : (k p e : ℕ) → e ≤ p → gen-inits (rulesOf R) C (initsFrom k f img p e) sc n ≡ done (record { regs = []; next = n })
+  unfolding gen-inits initsFrom
+  inits-end zero p e h = refl
+  inits-end (suc k) p e h = simp (le-ltb _ _ h)
+
+  pub inits-more : (k p e : ℕ) → (k ≡ 0 → ⊥) → p < e → gen-inits (rulesOf R) C (initsFrom k f img p e) sc n
+      ≡ (gen (rulesOf R) C (f (second img p)) sc n >>= λ v. gen-inits (rulesOf R) C (initsFrom (k - 1) f img (after img p) e) sc (v .next) >>= λ vs. done (record { regs = v ∷ vs .regs; next = vs .next }))
+  unfolding gen-inits initsFrom
+  inits-more zero p e h l = absurd (h refl)
+  inits-more (suc k) p e h l = simp (lt-ltb _ _ l, sub-one)
+
+pub gather-none : (img : List ℕ) (st : St) (c a : List ℕ) (i left : ℕ) (m : Res (Out Regs)) → m ≡ done (record { regs = []; next = st .next })
+    → Gathers img st c (record { st = st; count = i }) c a a i left m
+gather-none img st c a i left m e = record {
+  ran = rw e (still (raw (contractAt img)) refl (ap (λ (l : List At-reg). record { regs = l; next = st .next }) (values-none a i i (omega arith))));
+  before = λ j h. refl;
+  from = omega arith;
+  upto = omega arith;
+}
+
+-- the value that was kept
+module _ (a a1 : List ℕ) (i r n : ℕ) (long : i < 64) (room : length a ≡ 128) (e : a1 ≡ set (set a (2 * i) r) (2 * i + 1) n) where
+  reg-kept : getD a1 (2 * i) 0 ≡ r
+  reg-kept =
+      ap (λ (l : List ℕ). getD l (2 * i) 0) e
+      ∙ getD-set-other (set a (2 * i) r) (2 * i + 1) (2 * i) n 0 (λ z. omega (arith, z))
+      ∙ getD-set-same a (2 * i) r 0 (omega (arith, long, room))
+
+  next-kept : getD a1 (2 * i + 1) 0 ≡ n
+  next-kept = ap (λ (l : List ℕ). getD l (2 * i + 1) 0) e ∙ getD-set-same (set a (2 * i) r) (2 * i + 1) n 0 (rw (length-set a (2 * i) r) (omega (arith, long, room)))
+
+  others-kept : (j : ℕ) → j < 2 * i → getD a1 j 0 ≡ getD a j 0
+  others-kept j h =
+      ap (λ (l : List ℕ). getD l j 0) e
+      ∙ getD-set-other (set a (2 * i) r) (2 * i + 1) j n 0 (λ z. omega (arith, z, h))
+      ∙ getD-set-other a (2 * i) j r 0 (λ z. omega (arith, z, h))
+
+pub gather-more : (img : List ℕ) (st b : St) {c c1 c2 : List ℕ} (r : Several) (a a1 a2 : List ℕ) (i left : ℕ) (m : Res (Out At-reg)) (k : ℕ → Res (Out Regs)) (w : Res (Out Regs))
+    → w ≡ (m >>= λ v. k (v .next) >>= λ vs. done (record { regs = v ∷ vs .regs; next = vs .next }))
+    → i + left ≤ 64 → (left ≡ 0 → ⊥) → length a ≡ 128 → b .reg < 256 → Gives img st c b c1 m → a1 ≡ set (set a (2 * i) (b .reg)) (2 * i + 1) (b .next)
+    → Gathers img b c1 r c2 a1 a2 (i + 1) (left - 1) (k (b .next)) → Gathers img st c r c2 a a2 i left w
+gather-more img st b {c} {c1} {c2} r a a1 a2 i left m k w f l z room small h e g = record {
+  ran = rw f (seq (raw (contractAt img)) _ h (seq (raw (contractAt img)) _ (g .ran) (still (raw (contractAt img)) refl (ap (λ (x : List At-reg). record { regs = x; next = r .st .next }) listed))));
+  before = λ j y. g .before j (omega (arith, y)) ∙ others-kept a a1 i (b .reg) (b .next) long room e j y;
+  from = omega (arith, g .from);
+  upto = omega (arith, g .upto, z);
+}
+  where
+    long : i < 64
+    long = omega (arith, l, z)
+
+    cell : getD a2 (2 * i) 0 % 256 ≡ b .reg
+    cell =
+        let x : getD a2 (2 * i) 0 ≡ b .reg = g .before (2 * i) (omega arith) ∙ reg-kept a a1 i (b .reg) (b .next) long room e in
+        omega (arith, x, small)
+
+    after : getD a2 (2 * i + 1) 0 ≡ b .next
+    after = g .before (2 * i + 1) (omega arith) ∙ next-kept a a1 i (b .reg) (b .next) long room e
+
+    listed : valuesIn a2 i (r .count - i) ≡ at (b .reg) (b .next) ∷ valuesIn a2 (i + 1) (r .count - (i + 1))
+    listed = values-more a2 i (r .count) (omega (arith, g .from)) ∙ ap (λ (v : At-reg). v ∷ valuesIn a2 (i + 1) (r .count - (i + 1))) (λ j. at (cell j) (after j))
+
+-- all of them
+pub gathered : {img : List ℕ} {st : St} {c c' a a' : List ℕ} {r : Several} {m : Res (Out Regs)} → Gathers img st c r c' a a' 0 64 m
+    → Ran (raw (contractAt img)) (tally st) c (tally (r .st)) c' (record { regs = valuesIn a' 0 (r .count); next = r .st .next }) m
+gathered {img} {st} {c} {c'} {a} {a'} {r} {m} g =
+    let e : r .count - 0 ≡ r .count = omega arith in
+    subst (λ (k : ℕ). Ran (raw (contractAt img)) (tally st) c (tally (r .st)) c' (record { regs = valuesIn a' 0 k; next = r .st .next }) m) e (g .ran)
+
+module _ (img scope : List ℕ) (R : Rules) where
+  abbrev C : Contract
+  C = contractAt img
+
+  pub no-value : (st r : St) (c : List ℕ) (i : ℕ) → r ≡ moved st 0 (st .next) → Made img scope R st c r c (Expr.no-expr i)
+  unfolding gen
+  no-value st r c i e = ends-at st (raw C) e
+
+  pub other-value : (st r : St) (c : List ℕ) (f : ℕ → Expr) (i : ℕ) → r ≡ moved st 0 (st .next) → Made img scope R st c r c (exprAs kOther f img i)
+  unfolding exprAs
+  other-value st r c f i e = no-value st r c i e
+
+  pub int-small : (st r : St) (c c' : List ℕ) (f : ℕ → Expr) (i v : ℕ) → v ≤ 2147483647 → v ≡ intAt img i → News R st c i op.Load 0 0 v r c' → Made img scope R st c r c' (exprAs kInt f img i)
+  unfolding exprAs gen
+  int-small st r c c' f i v h e g = rw (← e, is-small R C i v (st .next) h) (g .ran C)
+
+  pub int-big : (st r : St) (c c' : List ℕ) (f : ℕ → Expr) (i v : ℕ) → v ≡ intAt img i → Ends st c r c' (numbered R i v (st .next)) → Made img scope R st c r c' (exprAs kInt f img i)
+  unfolding exprAs gen
+  int-big st r c c' f i v e g = rw (← e) (g C)
+
+  pub ident : (st r : St) (c : List ℕ) (f : ℕ → Expr) (i x : ℕ) → x ≡ inside img i → Finds img scope x 42 i st r → Made img scope R st c r c (exprAs kIdent f img i)
+  unfolding exprAs gen numberOf placeOf refused
+  ident st r c f i x e g =
+      let h : Finds img scope (inside img i) 42 i st r = rw e at g in
+      seq (raw C) _ (h .ran C c (Refusal.unread i (nameIn img i)) refl refl (λ z. omega (arith, z))) (still (raw C) refl (ap (λ (n : ℕ). at (r .reg) n) (h .next)))
+
+  pub storage-value : (st a r : St) (s : Slot) (c c' : List ℕ) (f : ℕ → Expr) (i x : ℕ) → x ≡ inside img i → Takes R st a i → Slots img x 46 i a s → Emits (s .st) c op.SRead (a .reg) 0 0 (s .slot) r c'
+      → Made img scope R st c r c' (exprAs kStorage f img i)
+  unfolding exprAs gen numberOf placeOf refused
+  storage-value st a r s c c' f i x e t g h =
+      let reg : r .reg ≡ a .reg = h .reg ∙ g .reg in
+      let next : r .next ≡ suc (a .reg) = h .next ∙ g .next ∙ t .next in
+      let s' : Slots img (inside img i) 46 i a s = rw e at g in
+      seq (raw C) _ (t .ran C c) (seq (raw C) _ (s' .ran (rulesOf R) c (Refusal.storage-unread i (nameIn img i)) refl refl (λ z. omega (arith, z)))
+      (seq (raw C) _ (h .ran C i false) (still (raw C) refl (λ j. at (reg j) (next j)))))
+
+  pub binary-value : (st a b r : St) (c c1 c2 c3 : List ℕ) (d i x y z : ℕ) (o : Opcode) → x ≡ inside img i → y ≡ after img x → z ≡ after img y → o ≡ opcode (binOpOf (opAt img y))
+      → Made img scope R st c a c1 (exprAt d img x) → Made img scope R a c1 b c2 (exprAt d img z) → Ends b c2 r c3 (combined R i (st .next) (at (a .reg) (a .next)) (at (b .reg) (b .next)) o)
+      → Made img scope R st c r c3 (exprAs kBinary (exprAt d img) img i)
+  unfolding exprAs gen
+  binary-value st a b r c c1 c2 c3 d i x y z o e f g h p q s = seq (raw C) _ (rw e at p) (seq (raw C) _ (rw (g, f, e) at q) (rw (h, f, e) at (s C)))
+
+  pub field-value : (st a r : St) (c c1 c2 : List ℕ) (d i x y k : ℕ) → x ≡ inside img i → y ≡ after img x → k ≡ offset C 0 (nameAt img y)
+      → Made img scope R st c a c1 (exprAt d img x) → News R a c1 i op.Load (a .reg) 0 k r c2 → Made img scope R st c r c2 (exprAs kAccess (exprAt d img) img i)
+  unfolding exprAs gen
+  field-value st a r c c1 c2 d i x y k e f g p q = seq (raw C) _ (rw e at p) (rw (g, f, e, any-place img (nameAt img (second img i)) 0 i) at (q .ran C))
+
+  pub mapping-value : (st a r : St) (s : Slot) (c c1 c2 : List ℕ) (d i x y : ℕ) → x ≡ inside img i → y ≡ after img x → Slots img x 47 i st s
+      → Made img scope R (s .st) c a c1 (exprAt d img y) → Ends a c1 r c2 (mapping-read R i (s .slot) (a .reg) (a .next)) → Made img scope R st c r c2 (exprAs kMapping (exprAt d img) img i)
+  unfolding exprAs gen numberOf placeOf refused
+  mapping-value st a r s c c1 c2 d i x y e f g p q =
+      let h : Slots img (inside img i) 47 i st s = rw e at g in
+      seq (raw C) _ (h .ran (rulesOf R) c (Refusal.mapping-unread i (nameIn img i)) refl refl (λ z. omega (arith, z))) (seq (raw C) _ (rw (f, e, h .next) at p) (q C))
+
+  pub literal-value : (st q r : St) (v : Several) (c c1 c2 c3 a a' : List ℕ) (d i h x y l : ℕ) → h ≡ suc (R .free) % 256 → l ≡ second img i → x ≡ inside img l → y ≡ after img l → News R st c i op.Add h 0 0 q c1
+      → Inited img scope R q c1 v c2 a a' 0 64 (initsFrom 64 (exprAt d img) img x y) → Ends (v .st) c2 r c3 (literal-end R i (st .next) (q .reg) (valuesIn a' 0 (v .count)) (v .st .next))
+      → Made img scope R st c r c3 (exprAs kLiteral (exprAt d img) img i)
+  unfolding exprAs gen
+  literal-value st q r v c c1 c2 c3 a a' d i h x y l u e f g n p s =
+      renewed (raw C) _ _ _ (n .any C (λ z. add i z (suc (R .free)) 0) (λ z. heap-copy C i h (R .free) z u)) (seq (raw C) _ (rw (f, g, e, n .next) at (gathered p)) (s C))
+
+  -- Calls
+  pub args-at : (st : St) (v : Several) (c c' a a' : List ℕ) (d i x y l : ℕ) → l ≡ second img i → x ≡ inside img l → y ≡ after img l
+      → Argued img scope R st c v c' a a' 0 64 (exprsFrom 64 (exprAt d img) img x y) → Argued img scope R st c v c' a a' 0 64 (argsAt d img i)
+  args-at st v c c' a a' d i x y l e f g p = rw (f, g, e) at p
+
+  pub poseidon-value : (st r : St) (v : Several) (c c1 c2 a a' : List ℕ) (d i : ℕ) (x y : Value) → Argued img scope R st c v c1 a a' 0 64 (argsAt d img i)
+      → valueOf x ≡ arg 0 (valuesIn a' 0 (v .count)) → valueOf y ≡ arg 1 (valuesIn a' 0 (v .count)) → Ends (v .st) c1 r c2 (combined R i (st .next) (valueOf x) (valueOf y) op.Poseidon)
+      → Called img scope R st c r c2 i d (some Builtin.poseidon)
+  unfolding gen-call
+  poseidon-value st r v c c1 c2 a a' d i x y p e f q = seq (raw C) _ (gathered p)
+      (subst (λ (z : At-reg). Gives img (v .st) c1 r c2 (combined R i (st .next) (arg 0 (valuesIn a' 0 (v .count))) z op.Poseidon C)) f
+      (subst (λ (z : At-reg). Gives img (v .st) c1 r c2 (combined R i (st .next) z (valueOf y) op.Poseidon C)) e (q C)))
+
+  pub merkle-value : (st r : St) (v : Several) (c c1 c2 a a' : List ℕ) (d i k : ℕ) (x y z : Value) → Argued img scope R st c v c1 a a' 0 64 (argsAt d img i)
+      → valueOf x ≡ arg 0 (valuesIn a' 0 (v .count)) → valueOf y ≡ arg 1 (valuesIn a' 0 (v .count)) → valueOf z ≡ arg 2 (valuesIn a' 0 (v .count)) → k ≡ z .reg
+      → News R (v .st) c1 i op.VerifyMerkle (x .reg) (y .reg) k r c2 → Called img scope R st c r c2 i d (some Builtin.merkle)
+  unfolding gen-call
+  merkle-value st r v c c1 c2 a a' d i k x y z p e f g h q =
+      let ex = ap (λ (w : At-reg). w .reg) e in
+      let ey = ap (λ (w : At-reg). w .reg) f in
+      let ez = h ∙ ap (λ (w : At-reg). w .reg) g in
+      seq (raw C) _ (gathered p) (rw (ex, ey, ez) at (q .ran C))
+
+  pub asked-value : (st w r : St) (v : Several) (c c1 b b' a a' : List ℕ) (d i k : ℕ) → Argued img scope R st b v b' a a' 0 64 (argsAt d img i)
+      → w ≡ record { next = st .next; reg = st .reg; err = v .st .err; place = v .st .place; n = st .n; base = st .base } → News R w c i op.Syscall 0 0 k r c1 → Asked img scope R st c r c1 i d k
+  asked-value st w r v c c1 b b' a a' d i k p e q =
+      seq (raw C) _ (unheard (raw C) _ (gathered p) (ap (λ (s : St). s .err) e) (ap (λ (s : St). s .place) e) (ap (λ (s : St). s .n) e) (ap (λ (s : St). s .base) e))
+      (rw (ap (λ (s : St). s .next) e) at (q .ran C))
+
+  pub user-value : (st b r : St) (v : Several) (c c1 c2 c3 a a' : List ℕ) (d i k x g : ℕ) → k ≡ st .next - 1 → Says st c b c1 (pushed 1 k) → Argued img scope R b c1 v c2 a a' 0 64 (argsAt d img i)
+      → x ≡ inside img i → g ≡ functionIn img (nameAt img x) → CallEnds (v .st) c2 r c3 R i (st .next) (valuesIn a' 0 (v .count)) g → Called img scope R st c r c3 i d none
+  unfolding gen-call
+  user-value st b r v c c1 c2 c3 a a' d i k x g e s p f h q = seq (raw C) _ (rw e at (s .ran C i)) (seq (raw C) _ (rw (s .next) at (gathered p)) (q C (nameIn img i) (rw f at h)))
+
+  pub call-value : (st r : St) (c c' : List ℕ) (d i x : ℕ) (b : Option Builtin) → x ≡ inside img i → b ≡ builtin (nameAt img x) → Called img scope R st c r c' i d b → Made img scope R st c r c' (exprAs kCall (exprAt d img) img i)
+  unfolding exprAs gen
+  call-value st r c c' d i x b e f p = rw (f, e) at p
+
+  -- the three system calls
+  pub as-sender : (st r : St) (c c' : List ℕ) (d i : ℕ) → Asked img scope R st c r c' i d 1 → Called img scope R st c r c' i d (some Builtin.sender)
+  unfolding gen-call
+  as-sender st r c c' d i p = p
+
+  pub as-nonce : (st r : St) (c c' : List ℕ) (d i : ℕ) → Asked img scope R st c r c' i d 3 → Called img scope R st c r c' i d (some Builtin.nonce)
+  unfolding gen-call
+  as-nonce st r c c' d i p = p
+
+  pub as-number : (st r : St) (c c' : List ℕ) (d i : ℕ) → Asked img scope R st c r c' i d 2 → Called img scope R st c r c' i d (some Builtin.block-number)
+  unfolding gen-call
+  as-number st r c c' d i p = p
+
+  -- by its kind
+  pub by-kind : (st r : St) (c c' : List ℕ) (d i k : ℕ) (K : Kind) → (d ≡ 0 → ⊥) → k ≡ kindAt img i → kindOf k ≡ K → Made img scope R st c r c' (exprAs K (exprAt (d - 1) img) img i)
+      → Made img scope R st c r c' (exprAt d img i)
+  by-kind st r c c' d i k K z e f p = rw (at-kind d img i k K z e f) p

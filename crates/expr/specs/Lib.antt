@@ -1,0 +1,5 @@
+pub mod Scope
+pub mod Names
+pub mod Steps
+pub mod Values
+pub mod Made
