@@ -2,13 +2,13 @@
 -- Assumes nothing.
 use mathlib.Core.Path.{_≡_, refl, sym, ap, _∙_}
 use mathlib.Core.Bool.{Bool, true, false}
-use mathlib.Core.List.{List, [], _∷_, _++_, append-assoc, append-nil}
+use mathlib.Core.List.{List, [], _++_, append-assoc, append-nil}
 use Prim.Native.Nat.{ℕ}
 use Rattle.rules.specs.Refusal as closed
 use Rattle.rules.specs.Bytes.{pick}
-use Rattle.rules.specs.Refusal.{Refusal, Res, ok, bad}
+use Rattle.rules.specs.Refusal.{Res, ok, bad}
 use Rattle.rules.specs.Emit.{Open, At-reg, loops}
-use Rattle.emit.specs.Steps.{Out, after, _>>=_, done, say, ask, behind, at, Here, around, looping}
+use Rattle.emit.specs.Steps.{Out, after, _>>=_, done, say, ask, behind, Here, around, looping}
 
 -- An answer as a value and its words.
 unfoldable pub as-out : {X A : Type 0} → (X → Out A) → Res X → Res (Out A)

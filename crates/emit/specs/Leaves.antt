@@ -14,9 +14,9 @@ use Rattle.isa.specs.declared.Opcode.{Opcode}
 use Rattle.isa.specs.Word.{encodeOf}
 use Rattle.rules.specs.Bytes.{pick}
 use Rattle.rules.specs.Tree.{Contract}
-use Rattle.rules.specs.Refusal.{Refusal, Res, ok, bad, refused, numberOf, placeOf}
-use Rattle.rules.specs.Machine.{Imm, Word, bitsOf}
-use Rattle.rules.specs.Emit.{Open, word, calls}
+use Rattle.rules.specs.Refusal.{Refusal, ok, bad, refused, numberOf, placeOf}
+use Rattle.rules.specs.Machine.{Word, bitsOf}
+use Rattle.rules.specs.Emit.{Open, word}
 use Rattle.rules.specs.Generate.{alloc-reg}
 use Rattle.emit.specs.Steps.{at, done}
 use Rattle.emit.specs.Ran.{orZero, wordOf, callOf, raw, Tally, Failed, Ran}

@@ -2,7 +2,7 @@
 -- Assumes nothing.
 use mathlib.Core.Path.{_≡_, refl, sym, ap, _∙_}
 use mathlib.Core.Option.{Option, none, some}
-use mathlib.Core.List.{List, [], _∷_, _++_, map, reverse, append-assoc}
+use mathlib.Core.List.{List, [], _∷_, _++_, map, append-assoc}
 use Prim.Native.Nat.{ℕ, suc, _+_, _-_}
 use lib.Dec.{leb}
 use lib.ListN.{length}
@@ -11,11 +11,11 @@ use Rattle.rules.specs.Bytes.{Name}
 use Rattle.rules.specs.Machine.{Imm}
 use Rattle.rules.specs.Tree.{Expr, Exprs, Inits, Stmt, Stmts, Field, Function, Contract}
 use Rattle.rules.specs.Refusal as closed
-use Rattle.rules.specs.Refusal.{Res, ok, bad}
+use Rattle.rules.specs.Refusal.{Res}
 use Rattle.rules.specs.Builtins.{Builtin, builtin}
 use Rattle.rules.specs.Emit.{Rules, Open, calls, emit, push, pop, load, add, Scope, with-name, bind, count, branches, loops, Value, At-reg, Values, Done}
 use Rattle.rules.specs.Generate.{alloc-reg, number, apply, expr, exprs, inits, logs, stmt, stmts, alloc-regs, function}
-use Rattle.emit.specs.Steps.{Out, after, _>>=_, done, say, ask, at, Regs, Here, gen-number, gen-call, gen, gens, gen-inits, gen-logs, gen-stmt, gen-stmts, gen-params, gen-function}
+use Rattle.emit.specs.Steps.{Out, after, _>>=_, at, Regs, Here, gen-number, gen-call, gen, gens, gen-inits, gen-logs, gen-stmt, gen-stmts, gen-params, gen-function}
 use Rattle.emit.specs.Laws.{as-out, after-none, part, asked, said, ends, closes, either, last, changed, block, looped, simple, regroup}
 
 abbrev pub value : Value → Out At-reg

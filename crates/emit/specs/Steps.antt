@@ -3,7 +3,7 @@
 -- Assumes nothing.
 use mathlib.Core.Option.{Option, none, some}
 use mathlib.Core.List.{List, [], _∷_, _++_, map, reverse}
-use Prim.Native.Nat.{ℕ, zero, suc, _+_, _-_, _*_, _/_, _%_, max}
+use Prim.Native.Nat.{ℕ, suc, _+_, _-_, _*_, _/_, _%_, max}
 use lib.Dec.{leb}
 use lib.ListN.{length}
 use Rattle.isa.specs.declared.Opcode.the-variants as op

@@ -10,8 +10,8 @@ use Prim.Native.Nat.{ℕ, zero, suc, _+_, _-_, _≤_, _<_}
 use native.Mathlib.Nat.{add-zero, zero-add, add-suc, suc-add}
 use native.Mathlib.Omega.{arith}
 use lib.Dec.{leb}
-use lib.ListN.{length, set, drop, length-set, drop-of-length-le}
-use lib.Seq.{sets, set-set, set-comm, length-sets}
+use lib.ListN.{length, set, drop, length-set}
+use lib.Seq.{sets, set-set, set-comm}
 use borrow.Author.Tests.{leb-true, leb-false, le-leb, lt-leb}
 use Rattle.rules.specs.Bytes.{pick}
 use Rattle.rules.specs.Lent.{over}

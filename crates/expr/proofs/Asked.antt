@@ -7,10 +7,10 @@ use mathlib.Core.Option.{Option, none, some}
 use Prim.Native.Nat.{ℕ, _<_}
 use native.Mathlib.Omega.{arith}
 use Rattle.rules.specs.Bytes.{pick, Name, eqName, nameAt, inside, after}
-use Rattle.rules.specs.Tables.{last-index, first-index}
+use Rattle.rules.specs.Tables.{first-index}
 use Rattle.rules.specs.Tree.{Field}
 use Rattle.rules.specs.Read.{fieldsAt, contractAt}
-use Rattle.rules.specs.Refusal.{Refusal, Res, ok, bad, known, numberOf, placeOf}
+use Rattle.rules.specs.Refusal.{Refusal, ok, known, numberOf, placeOf}
 use Rattle.rules.specs.Builtins as rules
 use Rattle.rules.specs.Emit.{find}
 use Rattle.rules.specs.Generate.{slot}
@@ -22,7 +22,6 @@ use Rattle.emit.specs.declared.St.{St}
 use Rattle.emit.specs.Ran.{Tally, Failed, orFirst, raw}
 use Rattle.emit.specs.State.{tally, moved, Fails}
 use Rattle.emit.specs.Refines.{answered, refuses}
-use Rattle.expr.specs.declared.Slot.{Slot}
 use Rattle.expr.specs.declared.names.Local.{Local}
 use Rattle.expr.specs.declared.names.Local.the-variants as local
 use Rattle.expr.specs.declared.names.Spot.the-variants as spot

@@ -2,7 +2,7 @@
 -- Assumes nothing.
 use mathlib.Core.Path.{_≡_, refl, sym, ap, _∙_, subst}
 use mathlib.Core.Bool.{false}
-use mathlib.Core.List.{List, [], _∷_, _++_}
+use mathlib.Core.List.{List, [], _∷_}
 use Prim.Native.Nat.{ℕ, zero, suc, _+_, _-_, _*_, _/_, _%_, _≤_, _<_, max}
 use native.Mathlib.Numerals.{sub-one, add-one}
 use native.Mathlib.Omega.{arith}
@@ -10,23 +10,22 @@ use lib.ListN.{length, getD}
 use borrow.Author.Tests.{le-leb, lt-leb}
 use Rattle.isa.specs.declared.Opcode.{Opcode}
 use Rattle.isa.specs.declared.Opcode.the-variants as op
-use Rattle.rules.specs.Bytes.{pick, Name}
-use Rattle.rules.specs.Tables.{last-index}
-use Rattle.rules.specs.Tree.{Function, Contract}
-use Rattle.rules.specs.Refusal.{Res, ok, bad}
+use Rattle.rules.specs.Bytes.{pick}
+use Rattle.rules.specs.Tree.{Contract}
+use Rattle.rules.specs.Refusal.{ok}
 use Rattle.rules.specs.Machine.{Imm, bitsOf}
-use Rattle.rules.specs.Emit.{Open, calls, emit, push, pop, load, add, count, parts, shift-in, stores, At-reg}
+use Rattle.rules.specs.Emit.{emit, push, pop, load, add, count, stores, At-reg}
 use Rattle.rules.specs.Generate.{alloc-reg, result}
 use Rattle.emit.specs.declared.St.{St}
 use Rattle.emit.specs.declared.Rules.{Rules}
-use Rattle.emit.specs.Steps.{Out, _>>=_, done, say, ask, at, gen-number}
-use Rattle.emit.specs.Ran.{orFirst, wordOf, raw, Ran}
+use Rattle.emit.specs.Steps.{_>>=_, done, say, ask, at, gen-number}
+use Rattle.emit.specs.Ran.{wordOf, raw, Ran}
 use Rattle.emit.specs.State.{rulesOf, tally, moved, fresh, Takes, Emits, News, Calls}
-use Rattle.emit.specs.Refines.{seq, still, answered, says, says-all, silent, said-first, renewed}
+use Rattle.emit.specs.Refines.{seq, answered, says, says-all, silent, said-first, renewed}
 use Rattle.emit.specs.Leaves.{raw-word, cut-rd, cut-rs1, ends-at}
 use Rattle.expr.specs.declared.steps.Value.{Value}
-use Rattle.expr.specs.Values.{valueOf, valuesIn, Ends, Says, CallEnds, Chooses, pushed, popped, argued, stored, shifted, chunked, numbered, combined, mapping-read, literal-end, call-end}
-use Rattle.expr.proofs.Values.{cellsAt, values-none, values-more, length-values, pop-none, pop-first, parts-first, parts-later, shift-none, shift-some, shift-more}
+use Rattle.expr.specs.Values.{valueOf, valuesIn, Ends, Says, CallEnds, Chooses, pushed, popped, argued, stored, shifted, chunked, numbered, combined, mapping-read, literal-end}
+use Rattle.expr.proofs.Values.{values-none, values-more, length-values, pop-none, pop-first, parts-first, parts-later, shift-none, shift-some, shift-more}
 
 -- A new register from a state with its next register set.
 pub takes-from : (R : Rules) (s : St) {a r : St} (x y p : ℕ) → a ≡ moved s x y → Takes R a r p

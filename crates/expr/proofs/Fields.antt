@@ -6,16 +6,14 @@ use mathlib.Core.List.{List, [], _∷_, map}
 use mathlib.Core.Option.{Option, none, some}
 use Prim.Native.Nat.{ℕ, zero, suc, _+_, _-_, _*_, _≤_, _<_}
 use native.Mathlib.Nat.{not-suc-le-zero, le-of-suc-le-suc}
-use native.Mathlib.Numerals.{add-one, sub-one}
 use native.Mathlib.Omega.{arith}
-use lib.Dec.{ltb}
 use lib.ListN.{length, getD, drop, drop-of-length-le}
 use lib.Seq.{drop-cons}
 use borrow.Author.Tests.{lt-ltb, le-ltb}
-use Rattle.rules.specs.Bytes.{pick, Name, eqName, inside, after}
+use Rattle.rules.specs.Bytes.{pick, Name, eqName, after}
 use Rattle.rules.specs.Tables.{orElse, last, last-index, first-index}
 use Rattle.rules.specs.Tree.{Field, Struct}
-use Rattle.rules.specs.Read.{placesFrom, placesIn, nameIn, fieldAt, fieldsAt, structAt, contractAt, second}
+use Rattle.rules.specs.Read.{placesFrom, nameIn, fieldAt, fieldsAt, structAt, contractAt, second}
 use Rattle.rules.specs.Layout.{kept, layouts, positions, withPosition, firstOf, offset}
 use Rattle.records.specs.Names.{name-refl}
 use Rattle.tables.specs.Listed.{structsIn}

@@ -5,15 +5,15 @@
 -- Assumes nothing.
 use mathlib.Core.Path.{_≡_, refl, sym, ap, _∙_}
 use mathlib.Core.Bool.{Bool, true, false}
-use mathlib.Core.List.{List, []}
-use mathlib.Core.Option.{Option, none, some}
+use mathlib.Core.List.{List}
+use mathlib.Core.Option.{none, some}
 use Prim.Native.Nat.{ℕ, zero, suc, _+_, _-_, _*_, _%_}
 use native.Mathlib.Numerals.{sub-one}
 use native.Mathlib.Omega.{arith}
 use lib.Dec.{eqb}
 use lib.ListN.{getD}
 use borrow.Author.Tests.{eq-eqb, eqb-true}
-use Rattle.rules.specs.Bytes.{pick, Name, eqName, nameAt}
+use Rattle.rules.specs.Bytes.{pick, Name, eqName}
 use Rattle.rules.specs.Emit.{Scope, with-name, find}
 use Rattle.records.specs.Names.{name-eq}
 use Rattle.records.specs.Keys.{keyOf, differ}

@@ -8,13 +8,12 @@ use mathlib.Core.List.{List, [], _∷_, _++_, map, reverse, reverseAux}
 use Prim.Native.Nat.{ℕ, zero, suc, _+_, _-_, _*_, _%_, _≤_, _<_}
 use native.Mathlib.Nat.{zero-add, add-zero, le-of-suc-le-suc, not-suc-le-zero}
 use native.Mathlib.Omega.{arith}
-use lib.ListN.{length, getD, set, List·getD-eq-default}
-use lib.Seq.{getD-set-same, getD-set-other}
+use lib.ListN.{length, getD, List·getD-eq-default}
 use Rattle.isa.specs.declared.Opcode.the-variants as op
 use Rattle.rules.specs.Tree.{BinOp}
 use Rattle.rules.specs.Read.{binOpOf}
 use Rattle.rules.specs.Machine.{Imm}
-use Rattle.rules.specs.Emit.{Open, emit, pop, load, add, opcode, count, parts, shift-in, At-reg, arg}
+use Rattle.rules.specs.Emit.{emit, pop, load, add, opcode, count, parts, shift-in, At-reg, arg}
 use Rattle.emit.specs.Steps.{at}
 use Rattle.expr.specs.Values.{valuesIn, popped}
 

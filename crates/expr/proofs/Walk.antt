@@ -1,8 +1,8 @@
 -- The walk, an expression at a time: what its parts did is what the definition does.
 -- Assumes nothing.
-use mathlib.Core.Path.{_≡_, refl, sym, ap, _∙_, subst}
-use mathlib.Core.Bool.{Bool, true, false}
-use mathlib.Core.List.{List, [], _∷_, map}
+use mathlib.Core.Path.{_≡_, refl, ap, _∙_, subst}
+use mathlib.Core.Bool.{false}
+use mathlib.Core.List.{List, [], _∷_}
 use mathlib.Core.Option.{Option, none, some}
 use Prim.Native.Nat.{ℕ, zero, suc, _+_, _-_, _*_, _%_, _≤_, _<_}
 use native.Mathlib.Numerals.{sub-one}
@@ -12,33 +12,28 @@ use lib.Seq.{getD-set-same, getD-set-other}
 use borrow.Author.Tests.{ne-eqb, lt-ltb, le-ltb}
 use Rattle.isa.specs.declared.Opcode.{Opcode}
 use Rattle.isa.specs.declared.Opcode.the-variants as op
-use Rattle.rules.specs.Bytes.{pick, Name, nameAt, inside, after, kindAt, intAt, opAt}
-use Rattle.rules.specs.Tree.{Expr, Exprs, Inits, Contract}
-use Rattle.rules.specs.Read.{Kind, kInt, kIdent, kStorage, kMapping, kAccess, kLiteral, kBinary, kCall, kOther, kindOf, exprsFrom, initsFrom, binOpOf, exprAs, exprAt, second, third, nameIn, contractAt}
+use Rattle.rules.specs.Bytes.{pick, nameAt, inside, after, kindAt, intAt, opAt}
+use Rattle.rules.specs.Tree.{Expr, Contract}
+use Rattle.rules.specs.Read.{Kind, kInt, kIdent, kStorage, kMapping, kAccess, kLiteral, kBinary, kCall, kOther, kindOf, exprsFrom, initsFrom, binOpOf, exprAs, exprAt, second, nameIn, contractAt}
 use Rattle.rules.specs.Refusal.{Refusal, Res, refused, numberOf, placeOf}
 use Rattle.rules.specs.Builtins.{Builtin, builtin}
 use Rattle.rules.specs.Layout.{offset}
-use Rattle.rules.specs.Machine.{Imm, bitsOf}
-use Rattle.rules.specs.Emit.{Open, Scope, opcode, emit, add, At-reg, arg}
-use Rattle.rules.specs.Generate.{alloc-reg}
+use Rattle.rules.specs.Emit.{Scope, opcode, add, At-reg, arg}
 use Rattle.emit.specs.declared.St.{St}
 use Rattle.emit.specs.declared.Rules.{Rules}
-use Rattle.emit.specs.Steps.{Out, Regs, _>>=_, done, say, ask, behind, at, gen, gens, gen-inits, gen-call, gen-number}
+use Rattle.emit.specs.Steps.{Out, Regs, _>>=_, done, at, gen, gens, gen-inits, gen-call}
 use Rattle.emit.specs.Ran.{raw, Ran}
 use Rattle.emit.specs.State.{rulesOf, tally, moved, Takes, Emits, News}
 use Rattle.emit.specs.Refines.{seq, still, renewed, unheard}
 use Rattle.emit.specs.Leaves.{ends-at}
 use Rattle.expr.specs.declared.Slot.{Slot}
-use Rattle.expr.specs.declared.names.Builtin as known
-use Rattle.expr.specs.declared.names.Builtin.the-variants as named
 use Rattle.expr.specs.declared.steps.Value.{Value}
 use Rattle.expr.specs.declared.steps.Several.{Several}
-use Rattle.expr.specs.Scope.{scopeIn}
-use Rattle.expr.specs.Names.{builtinOf, functionIn}
+use Rattle.expr.specs.Names.{functionIn}
 use Rattle.expr.specs.Steps.{Finds, Slots}
-use Rattle.expr.specs.Values.{valueOf, valuesIn, Ends, Says, CallEnds, pushed, numbered, combined, mapping-read, literal-end, call-end}
-use Rattle.expr.specs.Made.{Gives, Made, Gathers, Argued, Inited, argsAt, Called, Asked, Plain, Idents}
-use Rattle.expr.proofs.Values.{cellsAt, values-none, values-more}
+use Rattle.expr.specs.Values.{valueOf, valuesIn, Ends, Says, CallEnds, pushed, numbered, combined, mapping-read, literal-end}
+use Rattle.expr.specs.Made.{Gives, Made, Gathers, Argued, Inited, argsAt, Called, Asked}
+use Rattle.expr.proofs.Values.{values-none, values-more}
 use Rattle.expr.proofs.Chain.{is-small, heap-copy}
 use Rattle.expr.proofs.Fields.{any-place}
 
@@ -57,47 +52,43 @@ pub kind-other : (k : ℕ) → (k ≡ 64 → ⊥) → (k ≡ 65 → ⊥) → (k 
 unfolding kindOf pick
 kind-other k a b c d e f g h = simp (ne-eqb _ _ a, ne-eqb _ _ b, ne-eqb _ _ c, ne-eqb _ _ d, ne-eqb _ _ e, ne-eqb _ _ f, ne-eqb _ _ g, ne-eqb _ _ h)
 
--- Lists, a record at a time.
+-- Lists, a record at a time; the first that is left is number i of 64.
 module _ (R : Rules) (C : Contract) (f : ℕ → Expr) (img : List ℕ) (sc : Scope) (n : ℕ) where
-  pub args-zero : (k p e : ℕ) → k ≡ 0 → gens (rulesOf R) C (exprsFrom k f img p e) sc n ≡ done (record { regs = []; next = n })
+  pub args-full : (i p e : ℕ) → 64 ≤ i → gens (rulesOf R) C (exprsFrom (64 - i) f img p e) sc n ≡ done (record { regs = []; next = n })
   unfolding gens exprsFrom
-  args-zero zero p e h = refl
-  args-zero (suc k) p e h = absurd (omega (arith, h))
+  args-full i p e h = let q : 64 - i ≡ 0 = omega (arith, h) in rw q refl
 
   pub args-end : (k p e : ℕ) → e ≤ p → gens (rulesOf R) C (exprsFrom k f img p e) sc n ≡ done (record { regs = []; next = n })
   unfolding gens exprsFrom
   args-end zero p e h = refl
   args-end (suc k) p e h = simp (le-ltb _ _ h)
 
-  pub args-more : (k p e : ℕ) → (k ≡ 0 → ⊥) → p < e → gens (rulesOf R) C (exprsFrom k f img p e) sc n
-      ≡ (gen (rulesOf R) C (f p) sc n >>= λ v. gens (rulesOf R) C (exprsFrom (k - 1) f img (after img p) e) sc (v .next) >>= λ vs. done (record { regs = v ∷ vs .regs; next = vs .next }))
+  pub args-more : (i p e : ℕ) → i < 64 → p < e → gens (rulesOf R) C (exprsFrom (64 - i) f img p e) sc n
+      ≡ (gen (rulesOf R) C (f p) sc n >>= λ v. gens (rulesOf R) C (exprsFrom (64 - (i + 1)) f img (after img p) e) sc (v .next) >>= λ vs. done (record { regs = v ∷ vs .regs; next = vs .next }))
   unfolding gens exprsFrom
-  args-more zero p e h l = absurd (h refl)
-  args-more (suc k) p e h l = simp (lt-ltb _ _ l, sub-one)
+  args-more i p e h l = let q : 64 - i ≡ suc (64 - (i + 1)) = omega (arith, h) in rw q (simp (lt-ltb _ _ l))
 
-  pub inits-zero : (k p e : ℕ) → k ≡ 0 → gen-inits (rulesOf R) C (initsFrom k f img p e) sc n ≡ done (record { regs = []; next = n })
+  pub inits-full : (i p e : ℕ) → 64 ≤ i → gen-inits (rulesOf R) C (initsFrom (64 - i) f img p e) sc n ≡ done (record { regs = []; next = n })
   unfolding gen-inits initsFrom
-  inits-zero zero p e h = refl
-  inits-zero (suc k) p e h = absurd (omega (arith, h))
+  inits-full i p e h = let q : 64 - i ≡ 0 = omega (arith, h) in rw q refl
 
   pub inits-end : (k p e : ℕ) → e ≤ p → gen-inits (rulesOf R) C (initsFrom k f img p e) sc n ≡ done (record { regs = []; next = n })
   unfolding gen-inits initsFrom
   inits-end zero p e h = refl
   inits-end (suc k) p e h = simp (le-ltb _ _ h)
 
-  pub inits-more : (k p e : ℕ) → (k ≡ 0 → ⊥) → p < e → gen-inits (rulesOf R) C (initsFrom k f img p e) sc n
-      ≡ (gen (rulesOf R) C (f (second img p)) sc n >>= λ v. gen-inits (rulesOf R) C (initsFrom (k - 1) f img (after img p) e) sc (v .next) >>= λ vs. done (record { regs = v ∷ vs .regs; next = vs .next }))
+  pub inits-more : (i p e : ℕ) → i < 64 → p < e → gen-inits (rulesOf R) C (initsFrom (64 - i) f img p e) sc n
+      ≡ (gen (rulesOf R) C (f (second img p)) sc n >>= λ v. gen-inits (rulesOf R) C (initsFrom (64 - (i + 1)) f img (after img p) e) sc (v .next) >>= λ vs. done (record { regs = v ∷ vs .regs; next = vs .next }))
   unfolding gen-inits initsFrom
-  inits-more zero p e h l = absurd (h refl)
-  inits-more (suc k) p e h l = simp (lt-ltb _ _ l, sub-one)
+  inits-more i p e h l = let q : 64 - i ≡ suc (64 - (i + 1)) = omega (arith, h) in rw q (simp (lt-ltb _ _ l))
 
-pub gather-none : (img : List ℕ) (st : St) (c a : List ℕ) (i left : ℕ) (m : Res (Out Regs)) → m ≡ done (record { regs = []; next = st .next })
-    → Gathers img st c (record { st = st; count = i }) c a a i left m
-gather-none img st c a i left m e = record {
+pub gather-none : (img : List ℕ) (st : St) (c a : List ℕ) (i : ℕ) (m : Res (Out Regs)) → i ≤ 64 → m ≡ done (record { regs = []; next = st .next })
+    → Gathers img st c (record { st = st; count = i }) c a a i m
+gather-none img st c a i m l e = record {
   ran = rw e (still (raw (contractAt img)) refl (ap (λ (l : List At-reg). record { regs = l; next = st .next }) (values-none a i i (omega arith))));
   before = λ j h. refl;
   from = omega arith;
-  upto = omega arith;
+  upto = l;
 }
 
 -- the value that was kept
@@ -117,20 +108,17 @@ module _ (a a1 : List ℕ) (i r n : ℕ) (long : i < 64) (room : length a ≡ 12
       ∙ getD-set-other (set a (2 * i) r) (2 * i + 1) j n 0 (λ z. omega (arith, z, h))
       ∙ getD-set-other a (2 * i) j r 0 (λ z. omega (arith, z, h))
 
-pub gather-more : (img : List ℕ) (st b : St) {c c1 c2 : List ℕ} (r : Several) (a a1 a2 : List ℕ) (i left : ℕ) (m : Res (Out At-reg)) (k : ℕ → Res (Out Regs)) (w : Res (Out Regs))
+pub gather-more : (img : List ℕ) (st b : St) {c c1 c2 : List ℕ} (r : Several) (a a1 a2 : List ℕ) (i : ℕ) (m : Res (Out At-reg)) (k : ℕ → Res (Out Regs)) (w : Res (Out Regs))
     → w ≡ (m >>= λ v. k (v .next) >>= λ vs. done (record { regs = v ∷ vs .regs; next = vs .next }))
-    → i + left ≤ 64 → (left ≡ 0 → ⊥) → length a ≡ 128 → b .reg < 256 → Gives img st c b c1 m → a1 ≡ set (set a (2 * i) (b .reg)) (2 * i + 1) (b .next)
-    → Gathers img b c1 r c2 a1 a2 (i + 1) (left - 1) (k (b .next)) → Gathers img st c r c2 a a2 i left w
-gather-more img st b {c} {c1} {c2} r a a1 a2 i left m k w f l z room small h e g = record {
+    → i < 64 → length a ≡ 128 → b .reg < 256 → Gives img st c b c1 m → a1 ≡ set (set a (2 * i) (b .reg)) (2 * i + 1) (b .next)
+    → Gathers img b c1 r c2 a1 a2 (i + 1) (k (b .next)) → Gathers img st c r c2 a a2 i w
+gather-more img st b {c} {c1} {c2} r a a1 a2 i m k w f long room small h e g = record {
   ran = rw f (seq (raw (contractAt img)) _ h (seq (raw (contractAt img)) _ (g .ran) (still (raw (contractAt img)) refl (ap (λ (x : List At-reg). record { regs = x; next = r .st .next }) listed))));
   before = λ j y. g .before j (omega (arith, y)) ∙ others-kept a a1 i (b .reg) (b .next) long room e j y;
   from = omega (arith, g .from);
-  upto = omega (arith, g .upto, z);
+  upto = g .upto;
 }
   where
-    long : i < 64
-    long = omega (arith, l, z)
-
     cell : getD a2 (2 * i) 0 % 256 ≡ b .reg
     cell =
         let x : getD a2 (2 * i) 0 ≡ b .reg = g .before (2 * i) (omega arith) ∙ reg-kept a a1 i (b .reg) (b .next) long room e in
@@ -143,7 +131,7 @@ gather-more img st b {c} {c1} {c2} r a a1 a2 i left m k w f l z room small h e g
     listed = values-more a2 i (r .count) (omega (arith, g .from)) ∙ ap (λ (v : At-reg). v ∷ valuesIn a2 (i + 1) (r .count - (i + 1))) (λ j. at (cell j) (after j))
 
 -- all of them
-pub gathered : {img : List ℕ} {st : St} {c c' a a' : List ℕ} {r : Several} {m : Res (Out Regs)} → Gathers img st c r c' a a' 0 64 m
+pub gathered : {img : List ℕ} {st : St} {c c' a a' : List ℕ} {r : Several} {m : Res (Out Regs)} → Gathers img st c r c' a a' 0 m
     → Ran (raw (contractAt img)) (tally st) c (tally (r .st)) c' (record { regs = valuesIn a' 0 (r .count); next = r .st .next }) m
 gathered {img} {st} {c} {c'} {a} {a'} {r} {m} g =
     let e : r .count - 0 ≡ r .count = omega arith in
@@ -204,7 +192,7 @@ module _ (img scope : List ℕ) (R : Rules) where
       seq (raw C) _ (h .ran (rulesOf R) c (Refusal.mapping-unread i (nameIn img i)) refl refl (λ z. omega (arith, z))) (seq (raw C) _ (rw (f, e, h .next) at p) (q C))
 
   pub literal-value : (st q r : St) (v : Several) (c c1 c2 c3 a a' : List ℕ) (d i h x y l : ℕ) → h ≡ suc (R .free) % 256 → l ≡ second img i → x ≡ inside img l → y ≡ after img l → News R st c i op.Add h 0 0 q c1
-      → Inited img scope R q c1 v c2 a a' 0 64 (initsFrom 64 (exprAt d img) img x y) → Ends (v .st) c2 r c3 (literal-end R i (st .next) (q .reg) (valuesIn a' 0 (v .count)) (v .st .next))
+      → Inited img scope R q c1 v c2 a a' 0 (initsFrom 64 (exprAt d img) img x y) → Ends (v .st) c2 r c3 (literal-end R i (st .next) (q .reg) (valuesIn a' 0 (v .count)) (v .st .next))
       → Made img scope R st c r c3 (exprAs kLiteral (exprAt d img) img i)
   unfolding exprAs gen
   literal-value st q r v c c1 c2 c3 a a' d i h x y l u e f g n p s =
@@ -212,10 +200,10 @@ module _ (img scope : List ℕ) (R : Rules) where
 
   -- Calls
   pub args-at : (st : St) (v : Several) (c c' a a' : List ℕ) (d i x y l : ℕ) → l ≡ second img i → x ≡ inside img l → y ≡ after img l
-      → Argued img scope R st c v c' a a' 0 64 (exprsFrom 64 (exprAt d img) img x y) → Argued img scope R st c v c' a a' 0 64 (argsAt d img i)
+      → Argued img scope R st c v c' a a' 0 (exprsFrom 64 (exprAt d img) img x y) → Argued img scope R st c v c' a a' 0 (argsAt d img i)
   args-at st v c c' a a' d i x y l e f g p = rw (f, g, e) at p
 
-  pub poseidon-value : (st r : St) (v : Several) (c c1 c2 a a' : List ℕ) (d i : ℕ) (x y : Value) → Argued img scope R st c v c1 a a' 0 64 (argsAt d img i)
+  pub poseidon-value : (st r : St) (v : Several) (c c1 c2 a a' : List ℕ) (d i : ℕ) (x y : Value) → Argued img scope R st c v c1 a a' 0 (argsAt d img i)
       → valueOf x ≡ arg 0 (valuesIn a' 0 (v .count)) → valueOf y ≡ arg 1 (valuesIn a' 0 (v .count)) → Ends (v .st) c1 r c2 (combined R i (st .next) (valueOf x) (valueOf y) op.Poseidon)
       → Called img scope R st c r c2 i d (some Builtin.poseidon)
   unfolding gen-call
@@ -223,7 +211,7 @@ module _ (img scope : List ℕ) (R : Rules) where
       (subst (λ (z : At-reg). Gives img (v .st) c1 r c2 (combined R i (st .next) (arg 0 (valuesIn a' 0 (v .count))) z op.Poseidon C)) f
       (subst (λ (z : At-reg). Gives img (v .st) c1 r c2 (combined R i (st .next) z (valueOf y) op.Poseidon C)) e (q C)))
 
-  pub merkle-value : (st r : St) (v : Several) (c c1 c2 a a' : List ℕ) (d i k : ℕ) (x y z : Value) → Argued img scope R st c v c1 a a' 0 64 (argsAt d img i)
+  pub merkle-value : (st r : St) (v : Several) (c c1 c2 a a' : List ℕ) (d i k : ℕ) (x y z : Value) → Argued img scope R st c v c1 a a' 0 (argsAt d img i)
       → valueOf x ≡ arg 0 (valuesIn a' 0 (v .count)) → valueOf y ≡ arg 1 (valuesIn a' 0 (v .count)) → valueOf z ≡ arg 2 (valuesIn a' 0 (v .count)) → k ≡ z .reg
       → News R (v .st) c1 i op.VerifyMerkle (x .reg) (y .reg) k r c2 → Called img scope R st c r c2 i d (some Builtin.merkle)
   unfolding gen-call
@@ -233,13 +221,13 @@ module _ (img scope : List ℕ) (R : Rules) where
       let ez = h ∙ ap (λ (w : At-reg). w .reg) g in
       seq (raw C) _ (gathered p) (rw (ex, ey, ez) at (q .ran C))
 
-  pub asked-value : (st w r : St) (v : Several) (c c1 b b' a a' : List ℕ) (d i k : ℕ) → Argued img scope R st b v b' a a' 0 64 (argsAt d img i)
+  pub asked-value : (st w r : St) (v : Several) (c c1 b b' a a' : List ℕ) (d i k : ℕ) → Argued img scope R st b v b' a a' 0 (argsAt d img i)
       → w ≡ record { next = st .next; reg = st .reg; err = v .st .err; place = v .st .place; n = st .n; base = st .base } → News R w c i op.Syscall 0 0 k r c1 → Asked img scope R st c r c1 i d k
   asked-value st w r v c c1 b b' a a' d i k p e q =
       seq (raw C) _ (unheard (raw C) _ (gathered p) (ap (λ (s : St). s .err) e) (ap (λ (s : St). s .place) e) (ap (λ (s : St). s .n) e) (ap (λ (s : St). s .base) e))
       (rw (ap (λ (s : St). s .next) e) at (q .ran C))
 
-  pub user-value : (st b r : St) (v : Several) (c c1 c2 c3 a a' : List ℕ) (d i k x g : ℕ) → k ≡ st .next - 1 → Says st c b c1 (pushed 1 k) → Argued img scope R b c1 v c2 a a' 0 64 (argsAt d img i)
+  pub user-value : (st b r : St) (v : Several) (c c1 c2 c3 a a' : List ℕ) (d i k x g : ℕ) → k ≡ st .next - 1 → Says st c b c1 (pushed 1 k) → Argued img scope R b c1 v c2 a a' 0 (argsAt d img i)
       → x ≡ inside img i → g ≡ functionIn img (nameAt img x) → CallEnds (v .st) c2 r c3 R i (st .next) (valuesIn a' 0 (v .count)) g → Called img scope R st c r c3 i d none
   unfolding gen-call
   user-value st b r v c c1 c2 c3 a a' d i k x g e s p f h q = seq (raw C) _ (rw e at (s .ran C i)) (seq (raw C) _ (rw (s .next) at (gathered p)) (q C (nameIn img i) (rw f at h)))

@@ -16,7 +16,7 @@ use Rattle.rules.specs.Emit.{At-reg, emit}
 use Rattle.rules.specs.Generate.{alloc-reg}
 use Rattle.emit.specs.declared.St.{St}
 use Rattle.emit.specs.declared.Rules.{Rules}
-use Rattle.emit.specs.Steps.{Out, Regs, _>>=_, done, say, ask, behind, at, gen, gens, gen-inits, gen-call}
+use Rattle.emit.specs.Steps.{Out, _>>=_, Regs, done, say, ask, behind, at, gen, gens, gen-inits, gen-call}
 use Rattle.emit.specs.Ran.{raw, Ran}
 use Rattle.emit.specs.State.{rulesOf, tally}
 use Rattle.expr.specs.declared.steps.Several.{Several}
@@ -32,18 +32,18 @@ abbrev pub Made : (img scope : List ℕ) → Rules → (st : St) (c : List ℕ) 
 Made img scope R st c r c' e = Gives img st c r c' (gen (rulesOf R) (contractAt img) e (scopeIn img scope) (st .next))
 
 -- Several values, kept from number i on; those before stay.
-pub record Gathers (img : List ℕ) (st : St) (c : List ℕ) (r : Several) (c' : List ℕ) (a a' : List ℕ) (i left : ℕ) (m : Res (Out Regs)) : Type 0 where
+pub record Gathers (img : List ℕ) (st : St) (c : List ℕ) (r : Several) (c' : List ℕ) (a a' : List ℕ) (i : ℕ) (m : Res (Out Regs)) : Type 0 where
   pub ran : Ran (raw (contractAt img)) (tally st) c (tally (r .st)) c' (record { regs = valuesIn a' i (r .count - i); next = r .st .next }) m
   pub before : (j : ℕ) → j < 2 * i → getD a' j 0 ≡ getD a j 0
   pub from : i ≤ r .count
-  pub upto : r .count ≤ i + left
+  pub upto : r .count ≤ 64
 
 -- Arguments, and the values of a literal.
-abbrev pub Argued : (img scope : List ℕ) → Rules → (st : St) (c : List ℕ) (r : Several) (c' a a' : List ℕ) (i left : ℕ) → Exprs → Type 0
-Argued img scope R st c r c' a a' i left es = Gathers img st c r c' a a' i left (gens (rulesOf R) (contractAt img) es (scopeIn img scope) (st .next))
+abbrev pub Argued : (img scope : List ℕ) → Rules → (st : St) (c : List ℕ) (r : Several) (c' a a' : List ℕ) (i : ℕ) → Exprs → Type 0
+Argued img scope R st c r c' a a' i es = Gathers img st c r c' a a' i (gens (rulesOf R) (contractAt img) es (scopeIn img scope) (st .next))
 
-abbrev pub Inited : (img scope : List ℕ) → Rules → (st : St) (c : List ℕ) (r : Several) (c' a a' : List ℕ) (i left : ℕ) → Inits → Type 0
-Inited img scope R st c r c' a a' i left is = Gathers img st c r c' a a' i left (gen-inits (rulesOf R) (contractAt img) is (scopeIn img scope) (st .next))
+abbrev pub Inited : (img scope : List ℕ) → Rules → (st : St) (c : List ℕ) (r : Several) (c' a a' : List ℕ) (i : ℕ) → Inits → Type 0
+Inited img scope R st c r c' a a' i is = Gathers img st c r c' a a' i (gen-inits (rulesOf R) (contractAt img) is (scopeIn img scope) (st .next))
 
 -- The arguments of the Call at `i`.
 abbrev pub argsAt : ℕ → List ℕ → ℕ → Exprs

@@ -5,7 +5,7 @@
 ghost use mathlib.Core.Path.{_≡_};
 ghost use mathlib.Core.List.{List};
 ghost use mathlib.Core.Option.{none, some};
-ghost use Prim.Native.Nat.{ℕ, _+_, _≤_};
+ghost use Prim.Native.Nat.{ℕ, _-_, _≤_};
 ghost use lib.ListN.{length};
 ghost use Rattle.rules.specs.Tree.{Expr};
 ghost use Rattle.rules.specs.Read.{exprAt, exprAs, exprsFrom, initsFrom, kInt, kIdent, kStorage, kMapping, kAccess, kLiteral, kBinary, kCall};
@@ -111,6 +111,7 @@ fn gen_storage(
     emit::emit(code, s.st, Opcode::SRead, a.reg, 0, 0, s.slot)
 }
 
+// 000: generate_expr, Binary
 fn gen_binary(
     code: &mut [u64],
     img: &[u8],
@@ -141,6 +142,7 @@ fn gen_binary(
     steps::combine(code, rules, b, place, st.next, l, r, opcode)
 }
 
+// 000: generate_expr, FieldAccess
 fn gen_field(
     code: &mut [u64],
     img: &[u8],
@@ -160,6 +162,7 @@ fn gen_field(
     emit::emit_new(code, rules, a, place, Opcode::Load, a.reg, 0, offset)
 }
 
+// 000: generate_expr, MappingRead
 fn gen_mapping(
     code: &mut [u64],
     img: &[u8],
@@ -188,7 +191,7 @@ fn gen_mapping(
     steps::read_mapping(code, rules, a, place, s.slot)
 }
 
-// 000: the values of a StructLiteral, from the record at p to e, `left` of them at most; the first is number i
+// 000: the values of a StructLiteral, from the record at p to e, number i to 63 at most
 fn gen_inits(
     code: &mut [u64],
     vals: &mut [u64; 128],
@@ -199,14 +202,13 @@ fn gen_inits(
     depth: usize,
     p: usize,
     e: usize,
-    left: usize,
     i: usize,
     st: St,
 ) -> Several
-    requires { ⌜ Tabled (now img) (now tables) × ((i + left ≤ 64) × (length (now vals) ≡ 128)) ⌝ }
-    ensures { λ r. ⌜ Inited (now (img .entry)) (now (scope .entry)) rules st (now (code .entry)) r (now (code .exit)) (now (vals .entry)) (now (vals .exit)) i left (initsFrom left (exprAt depth (now (img .entry))) (now (img .entry)) p e) ⌝ }
+    requires { ⌜ Tabled (now img) (now tables) × ((i ≤ 64) × (length (now vals) ≡ 128)) ⌝ }
+    ensures { λ r. ⌜ Inited (now (img .entry)) (now (scope .entry)) rules st (now (code .entry)) r (now (code .exit)) (now (vals .entry)) (now (vals .exit)) i (initsFrom (64 - i) (exprAt depth (now (img .entry))) (now (img .entry)) p e) ⌝ }
 {
-    if left == 0 {
+    if 64 <= i {
         return Several { st, count: i };
     }
     if e <= p {
@@ -215,7 +217,6 @@ fn gen_inits(
     let value = records::past(img, records::body(img, p));
     let a = gen_expr(code, img, tables, scope, rules, depth, value, st);
     steps::keep(vals, i, a);
-    let next = records::past(img, p);
     gen_inits(
         code,
         vals,
@@ -224,14 +225,14 @@ fn gen_inits(
         scope,
         rules,
         depth,
-        next,
+        records::past(img, p),
         e,
-        left - 1,
         i + 1,
         a,
     )
 }
 
+// 000: generate_expr, StructLiteral
 fn gen_literal(
     code: &mut [u64],
     img: &[u8],
@@ -260,14 +261,13 @@ fn gen_literal(
         depth,
         p,
         e,
-        64,
         0,
         q,
     );
     steps::close_literal(code, &vals, rules, v, place, st.next, q.reg)
 }
 
-// 000: the arguments of a Call, from the record at p to e, `left` of them at most; the first is number i
+// 000: the arguments of a Call, from the record at p to e, number i to 63 at most
 fn gen_args(
     code: &mut [u64],
     vals: &mut [u64; 128],
@@ -278,14 +278,13 @@ fn gen_args(
     depth: usize,
     p: usize,
     e: usize,
-    left: usize,
     i: usize,
     st: St,
 ) -> Several
-    requires { ⌜ Tabled (now img) (now tables) × ((i + left ≤ 64) × (length (now vals) ≡ 128)) ⌝ }
-    ensures { λ r. ⌜ Argued (now (img .entry)) (now (scope .entry)) rules st (now (code .entry)) r (now (code .exit)) (now (vals .entry)) (now (vals .exit)) i left (exprsFrom left (exprAt depth (now (img .entry))) (now (img .entry)) p e) ⌝ }
+    requires { ⌜ Tabled (now img) (now tables) × ((i ≤ 64) × (length (now vals) ≡ 128)) ⌝ }
+    ensures { λ r. ⌜ Argued (now (img .entry)) (now (scope .entry)) rules st (now (code .entry)) r (now (code .exit)) (now (vals .entry)) (now (vals .exit)) i (exprsFrom (64 - i) (exprAt depth (now (img .entry))) (now (img .entry)) p e) ⌝ }
 {
-    if left == 0 {
+    if 64 <= i {
         return Several { st, count: i };
     }
     if e <= p {
@@ -293,7 +292,6 @@ fn gen_args(
     }
     let a = gen_expr(code, img, tables, scope, rules, depth, p, st);
     steps::keep(vals, i, a);
-    let next = records::past(img, p);
     gen_args(
         code,
         vals,
@@ -302,9 +300,8 @@ fn gen_args(
         scope,
         rules,
         depth,
-        next,
+        records::past(img, p),
         e,
-        left - 1,
         i + 1,
         a,
     )
@@ -323,27 +320,15 @@ fn gen_list(
     st: St,
 ) -> Several
     requires { ⌜ Tabled (now img) (now tables) × (length (now vals) ≡ 128) ⌝ }
-    ensures { λ r. ⌜ Argued (now (img .entry)) (now (scope .entry)) rules st (now (code .entry)) r (now (code .exit)) (now (vals .entry)) (now (vals .exit)) 0 64 (argsAt depth (now (img .entry)) place) ⌝ }
+    ensures { λ r. ⌜ Argued (now (img .entry)) (now (scope .entry)) rules st (now (code .entry)) r (now (code .exit)) (now (vals .entry)) (now (vals .exit)) 0 (argsAt depth (now (img .entry)) place) ⌝ }
 {
     let list = records::past(img, records::body(img, place));
     let p = records::body(img, list);
     let e = records::past(img, list);
-    gen_args(
-        code,
-        vals,
-        img,
-        tables,
-        scope,
-        rules,
-        depth,
-        p,
-        e,
-        64,
-        0,
-        st,
-    )
+    gen_args(code, vals, img, tables, scope, rules, depth, p, e, 0, st)
 }
 
+// 000: generate_expr, poseidon
 fn gen_poseidon(
     code: &mut [u64],
     img: &[u8],
@@ -364,6 +349,7 @@ fn gen_poseidon(
     steps::combine(code, rules, v.st, place, st.next, l, r, Opcode::Poseidon)
 }
 
+// 000: generate_expr, verify_merkle_proof
 fn gen_merkle(
     code: &mut [u64],
     img: &[u8],
@@ -448,6 +434,7 @@ fn gen_user(
     steps::close_call(code, &vals, rules, v, place, st.next, f)
 }
 
+// 000: generate_expr, Call
 fn gen_call(
     code: &mut [u64],
     img: &[u8],

@@ -17,7 +17,7 @@ use Rattle.rules.specs.Analyse.{Arg, Misfit, misfit, clashes, Sig, paramsOf, ap
 use Rattle.rules.specs.Read.{nameIn, second, exprAt, exprsFrom, initsFrom}
 use Rattle.lookup.specs.Answers.{noted}
 use Rattle.lookup.specs.Results.{then-ok, then-bad}
-use Rattle.sema.specs.Arguments.{Sum, sum, sumUp, sumArgs, behind}
+use Rattle.sema.specs.Arguments.{Sum, sum, sumUp, sumArgs, behind, oneInit}
 use Rattle.sema.proofs.Trees.{at-place, exprs-more, inits-more}
 
 -- the parameters that are due after i
@@ -61,6 +61,12 @@ unfolding _>>=_ behind orElse
 behind-none (bad r) = refl
 behind-none (ok s) = refl
 
+-- two steps, then a third
+joined : {A B D : Type 0} (m : Res A) (f : A → Res B) (g : B → Res D) → ((m >>= f) >>= g) ≡ (m >>= λ a. f a >>= g)
+unfolding _>>=_
+joined (ok a) f g = refl
+joined (bad r) f g = refl
+
 module _ (C : Contract) (d : ℕ) (img : List ℕ) (Γ : Env) where
   -- before the first argument
   pub args-start : (ps : List Typ) (k p e : ℕ) → sumArgs C ps 0 (exprsFrom k (exprAt d img) img p e) Γ ≡ (sumArgs C ps 0 (exprsFrom (k - 0) (exprAt d img) img p e) Γ >>= behind none)
@@ -88,20 +94,24 @@ module _ (C : Contract) (d : ℕ) (img : List ℕ) (Γ : Env) where
     args-refused k p e h l q = rw (exprs-more (exprAt d img) img (k - i) p e (λ y. omega arith) l, ← q)
 
   module _ (s : Struct) (k p e : ℕ) (h : k ≡ 0 → ⊥) (l : p < e) where
-    inits-one : inits C s (initsFrom k (exprAt d img) img p e) Γ ≡ (expr C (exprAt d img (second img p)) Γ >>= λ t. initFits p (nameIn img p) (fieldType (nameIn img p) s) t >>= λ u. inits C s (initsFrom (k - 1) (exprAt d img) img (after img p) e) Γ)
-    unfolding inits
-    inits-one = rw (inits-more (exprAt d img) img k p e h l)
+    first : Res (Unit {0})
+    first = oneInit C s p (nameIn img p) (exprAt d img (second img p)) Γ
 
-    pub inits-next : {t : Typ} → ok t ≡ expr C (exprAt d img (second img p)) Γ → ok tt ≡ initFits p (nameIn img p) (fieldType (nameIn img p) s) t
+    rest : Res (Unit {0})
+    rest = inits C s (initsFrom (k - 1) (exprAt d img) img (after img p) e) Γ
+
+    inits-one : inits C s (initsFrom k (exprAt d img) img p e) Γ ≡ (first >>= λ u. rest)
+    unfolding inits first rest oneInit
+    inits-one = rw (inits-more (exprAt d img) img k p e h l) (sym (joined (expr C (exprAt d img (second img p)) Γ) _ _))
+
+    pub inits-next : ok tt ≡ oneInit C s p (nameIn img p) (exprAt d img (second img p)) Γ
         → inits C s (initsFrom k (exprAt d img) img p e) Γ ≡ inits C s (initsFrom (k - 1) (exprAt d img) img (after img p) e) Γ
-    inits-next q w = inits-one ∙ sym (then-ok _ q (then-ok _ w refl))
+    unfolding first rest
+    inits-next q = inits-one ∙ sym (then-ok _ q refl)
 
-    pub inits-unfit : {t : Typ} {r : Refusal} → ok t ≡ expr C (exprAt d img (second img p)) Γ → bad r ≡ initFits p (nameIn img p) (fieldType (nameIn img p) s) t
-        → bad r ≡ inits C s (initsFrom k (exprAt d img) img p e) Γ
-    inits-unfit q w = then-ok _ q (then-bad _ w) ∙ sym inits-one
-
-    pub inits-refused : {r : Refusal} → bad r ≡ expr C (exprAt d img (second img p)) Γ → bad r ≡ inits C s (initsFrom k (exprAt d img) img p e) Γ
-    inits-refused q = then-bad _ q ∙ sym inits-one
+    pub inits-bad : {r : Refusal} → bad r ≡ oneInit C s p (nameIn img p) (exprAt d img (second img p)) Γ → bad r ≡ inits C s (initsFrom k (exprAt d img) img p e) Γ
+    unfolding first rest
+    inits-bad q = then-bad _ q ∙ sym inits-one
 
 pub call-done : (o : Res (List Arg)) (p : ℕ) (f : Name) (s : Option Sig) {r : Res Typ}
     → r ≡ ((o >>= sumUp (paramsOf s) 0) >>= λ q. applied p f (q .count) (q .first) s) → r ≡ (o >>= λ vs. apply p f vs s)

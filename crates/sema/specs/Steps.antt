@@ -1,4 +1,6 @@
 -- What the code of a statement is to do: from the names in scope that an array holds it reaches others, as the definition says.
+--     exprOf, stmtOf, bodyOf, elseOf     what is read at a place
+--     Gives                    the type of an expression
 --     Stepped, Step, Steps     the array, the cells in use and the answer
 --     Bound                    the parameters of a function
 -- Assumes nothing.
@@ -11,11 +13,30 @@ use Rattle.rules.specs.Tree.{Expr, Stmt, Stmts, Function, Contract}
 use Rattle.rules.specs.Types.{Typ, Env, with-name}
 use Rattle.rules.specs.Refusal.{Res, ok, bad, _>>=_}
 use Rattle.rules.specs.Analyse.{expr, stmt, stmts, with-params}
-use Rattle.rules.specs.Read.{contractAt, fieldAt}
+use Rattle.rules.specs.Read.{Kind, StmtKind, exprAs, exprAt, stmtAs, stmtAt, bodyAt, elseAt, contractAt, fieldAt}
 use Rattle.bounds.specs.Sizes.{vars, vars-stmts}
-use Rattle.lookup.specs.Answers.{faultOf, envOf}
+use Rattle.lookup.specs.declared.Typed.{Typed}
+use Rattle.lookup.specs.Answers.{faultOf, envOf, typedOf}
 use Rattle.sema.specs.declared.After.{After}
 use Rattle.sema.specs.declared.After.the-variants as after
+
+-- the record at i taken as one of a kind, d records deep at most below it
+abbrev pub exprOf : Kind → ℕ → List ℕ → ℕ → Expr
+exprOf K d img i = exprAs K (exprAt d img) img i
+
+abbrev pub stmtOf : StmtKind → ℕ → List ℕ → ℕ → Stmt
+stmtOf K d img i = stmtAs K (exprAt d img) (stmtAt d img) img i
+
+-- the statements of the List at l; those of an else, if there is one before e
+abbrev pub bodyOf : ℕ → List ℕ → ℕ → Stmts
+bodyOf d img l = bodyAt (stmtAt d img) img l
+
+abbrev pub elseOf : ℕ → List ℕ → ℕ → ℕ → Stmts
+elseOf d img l e = elseAt (stmtAt d img) img l e
+
+-- the type of an expression, or its first refusal, with the names that the array e holds up to top
+abbrev pub Gives : (img e : List ℕ) (top : ℕ) → Typed → Expr → Type 0
+Gives img e top r x = typedOf img r ≡ expr (contractAt img) x (envOf img e top)
 
 unfoldable pub afterOf : List ℕ → List ℕ → After → Res Env
 afterOf img e (after.Top k) = ok (envOf img e k)

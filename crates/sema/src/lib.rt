@@ -15,17 +15,17 @@ ghost use mathlib.Core.List.{List};
 ghost use Prim.Native.Nat.{ℕ, suc, _≤_, _+_, _*_};
 ghost use lib.ListN.{length};
 ghost use Rattle.rules.specs.Bytes.{nameAt};
-ghost use Rattle.rules.specs.Read.{exprAt, exprAs, exprsFrom, initsFrom, kMapping, kAccess, kLiteral, kBinary, kCall, stmtAt, stmtAs, bodyAt, elseAt, stmtKindOf, sLet, sAssign, sMapping, sIf, sWhile, sFor, sReturn, sEmit, placesIn, structAt, functionAt, contractAt};
-ghost use Rattle.rules.specs.Types.{clash};
+ghost use Rattle.rules.specs.Read.{exprAt, kMapping, kAccess, kLiteral, kBinary, kCall, stmtAt, stmtKindOf, sLet, sAssign, sMapping, sIf, sWhile, sFor, sReturn, sEmit, placesIn, nameIn, second, structAt, functionAt, contractAt};
+ghost use Rattle.rules.specs.Types.{Typ, clash};
 ghost use Rattle.rules.specs.Refusal.{Refusal, unless, answer, refused};
-ghost use Rattle.rules.specs.Analyse.{expr, inits, function};
+ghost use Rattle.rules.specs.Analyse.{inits, function};
 ghost use Rattle.rules.specs.Build.{analyseOf};
 ghost use Rattle.tables.specs.Listed.{Tabled};
-ghost use Rattle.lookup.specs.Answers.{tyOf, dueOf, typedOf, checkedOf, envOf, faultOf};
+ghost use Rattle.lookup.specs.Answers.{tyOf, dueOf, checkedOf, envOf, faultOf};
 ghost use Rattle.bounds.specs.Sizes.{vars, vars-stmts};
-ghost use Rattle.sema.specs.Arguments.{argsOf, sumArgs};
+ghost use Rattle.sema.specs.Arguments.{argsOf, sumArgs, exprsIn, initsIn, oneInit};
 ghost use Rattle.sema.specs.Entry.{Passed, analysis};
-ghost use Rattle.sema.specs.Steps.{Stepped, Step, Steps, only, inLoop, Bound, names};
+ghost use Rattle.sema.specs.Steps.{exprOf, stmtOf, bodyOf, elseOf, Gives, Stepped, Step, Steps, only, inLoop, Bound, names};
 
 // How many arguments there are, and the first misfit.
 pub enum Args {
@@ -49,7 +49,7 @@ fn analyze_mapping(
     top: usize,
 ) -> Typed
     requires { ⌜ Tabled (now img) (now tables) ⌝ }
-    ensures { λ r. ⌜ typedOf (now (img .entry)) r ≡ expr (contractAt (now (img .entry))) (exprAs kMapping (exprAt d (now (img .entry))) (now (img .entry)) at) (envOf (now (img .entry)) (now (env .entry)) top) ⌝ }
+    ensures { λ r. ⌜ Gives (now (img .entry)) (now (env .entry)) top r (exprOf kMapping d (now (img .entry)) at) ⌝ }
 {
     let key = records::past(img, records::body(img, at));
     let t = analyze_expr(img, tables, key, d, env, top);
@@ -69,7 +69,7 @@ fn analyze_access(
     top: usize,
 ) -> Typed
     requires { ⌜ Tabled (now img) (now tables) ⌝ }
-    ensures { λ r. ⌜ typedOf (now (img .entry)) r ≡ expr (contractAt (now (img .entry))) (exprAs kAccess (exprAt d (now (img .entry))) (now (img .entry)) at) (envOf (now (img .entry)) (now (env .entry)) top) ⌝ }
+    ensures { λ r. ⌜ Gives (now (img .entry)) (now (env .entry)) top r (exprOf kAccess d (now (img .entry)) at) ⌝ }
 {
     let base = records::body(img, at);
     let t = analyze_expr(img, tables, base, d, env, top);
@@ -89,7 +89,7 @@ fn analyze_binary(
     top: usize,
 ) -> Typed
     requires { ⌜ Tabled (now img) (now tables) ⌝ }
-    ensures { λ r. ⌜ typedOf (now (img .entry)) r ≡ expr (contractAt (now (img .entry))) (exprAs kBinary (exprAt d (now (img .entry))) (now (img .entry)) at) (envOf (now (img .entry)) (now (env .entry)) top) ⌝ }
+    ensures { λ r. ⌜ Gives (now (img .entry)) (now (env .entry)) top r (exprOf kBinary d (now (img .entry)) at) ⌝ }
 {
     let left = records::body(img, at);
     let op = records::past(img, left);
@@ -107,12 +107,11 @@ fn analyze_binary(
     }
 }
 
-// The arguments from `at` to end, left at most, of a call that takes `params`.
+// The arguments in the List at l, left at most, of a call that takes `params`.
 fn analyze_args(
     img: &[u8],
     tables: &[usize],
-    at: usize,
-    end: usize,
+    l: usize,
     left: usize,
     d: usize,
     env: &[usize],
@@ -120,9 +119,10 @@ fn analyze_args(
     params: Due,
 ) -> Args
     requires { ⌜ Tabled (now img) (now tables) ⌝ }
-    ensures { λ r. ⌜ argsOf (now (img .entry)) r ≡ sumArgs (contractAt (now (img .entry))) (dueOf (now (img .entry)) params) 0 (exprsFrom left (exprAt d (now (img .entry))) (now (img .entry)) at end) (envOf (now (img .entry)) (now (env .entry)) top) ⌝ }
+    ensures { λ r. ⌜ argsOf (now (img .entry)) r ≡ sumArgs (contractAt (now (img .entry))) (dueOf (now (img .entry)) params) 0 (exprsIn left d (now (img .entry)) l) (envOf (now (img .entry)) (now (env .entry)) top) ⌝ }
 {
-    let mut p = at;
+    let end = records::past(img, l);
+    let mut p = records::body(img, l);
     let mut i = 0;
     let mut due = params;
     let mut m = Misfit::Fits;
@@ -156,73 +156,74 @@ fn analyze_call(
     top: usize,
 ) -> Typed
     requires { ⌜ Tabled (now img) (now tables) ⌝ }
-    ensures { λ r. ⌜ typedOf (now (img .entry)) r ≡ expr (contractAt (now (img .entry))) (exprAs kCall (exprAt d (now (img .entry))) (now (img .entry)) at) (envOf (now (img .entry)) (now (env .entry)) top) ⌝ }
+    ensures { λ r. ⌜ Gives (now (img .entry)) (now (env .entry)) top r (exprOf kCall d (now (img .entry)) at) ⌝ }
 {
     let x = records::body(img, at);
     let list = records::past(img, x);
     let c = lookup::callee_named(img, tables, x);
     let params = lookup::dues(img, c);
-    let v = analyze_args(
-        img,
-        tables,
-        records::body(img, list),
-        records::past(img, list),
-        64,
-        d,
-        env,
-        top,
-        params,
-    );
+    let v = analyze_args(img, tables, list, 64, d, env, top, params);
     match v {
         Args::Done(n, m) => lookup::apply_to(img, at, x, c, n, m),
         Args::Refused(f) => Typed::Refused(f),
     }
 }
 
-// 001: analyze_expr, StructLiteral: the Inits from `at` to end, left at most, of the struct at s.
-fn analyze_inits(
+// 001: analyze_expr, StructLiteral: the Init at `at`, of the struct at s: its value, then its field.
+fn analyze_init(
     img: &[u8],
     tables: &[usize],
     at: usize,
-    end: usize,
-    left: usize,
     d: usize,
     env: &[usize],
     top: usize,
     s: usize,
 ) -> Checked
     requires { ⌜ Tabled (now img) (now tables) ⌝ }
-    ensures { λ r. ⌜ checkedOf (now (img .entry)) r ≡ inits (contractAt (now (img .entry))) (structAt (now (img .entry)) s) (initsFrom left (exprAt d (now (img .entry))) (now (img .entry)) at end) (envOf (now (img .entry)) (now (env .entry)) top) ⌝ }
+    ensures { λ r. ⌜ checkedOf (now (img .entry)) r ≡ oneInit (contractAt (now (img .entry))) (structAt (now (img .entry)) s) at (nameIn (now (img .entry)) at) (exprAt d (now (img .entry)) (second (now (img .entry)) at)) (envOf (now (img .entry)) (now (env .entry)) top) ⌝ }
 {
-    let mut p = at;
-    let mut k = left;
+    let t = analyze_expr(
+        img,
+        tables,
+        records::past(img, records::body(img, at)),
+        d,
+        env,
+        top,
+    );
+    match t {
+        Typed::Is(b) => lookup::init_fits(img, at, s, b),
+        Typed::Refused(f) => Checked::Refused(f),
+    }
+}
+
+// The Inits in the List at l, of the struct at s.
+fn analyze_inits(
+    img: &[u8],
+    tables: &[usize],
+    l: usize,
+    d: usize,
+    env: &[usize],
+    top: usize,
+    s: usize,
+) -> Checked
+    requires { ⌜ Tabled (now img) (now tables) ⌝ }
+    ensures { λ r. ⌜ checkedOf (now (img .entry)) r ≡ inits (contractAt (now (img .entry))) (structAt (now (img .entry)) s) (initsIn d (now (img .entry)) l) (envOf (now (img .entry)) (now (env .entry)) top) ⌝ }
+{
+    let end = records::past(img, l);
+    let mut p = records::body(img, l);
+    let mut k: usize = 64;
     while k != 0 {
         if end <= p {
             return Checked::Fine;
         }
-        let t = analyze_expr(
-            img,
-            tables,
-            records::past(img, records::body(img, p)),
-            d,
-            env,
-            top,
-        );
-        match t {
-            Typed::Is(b) => {
-                let fit = lookup::init_fits(img, p, s, b);
-                match fit {
-                    Checked::Fine => {
-                        p = records::past(img, p);
-                        k -= 1;
-                    }
-                    Checked::Refused(_) => {
-                        return fit;
-                    }
-                }
+        let fit = analyze_init(img, tables, p, d, env, top, s);
+        match fit {
+            Checked::Fine => {
+                p = records::past(img, p);
+                k -= 1;
             }
-            Typed::Refused(f) => {
-                return Checked::Refused(f);
+            Checked::Refused(_) => {
+                return fit;
             }
         }
     }
@@ -239,24 +240,14 @@ fn analyze_literal(
     top: usize,
 ) -> Typed
     requires { ⌜ Tabled (now img) (now tables) ⌝ }
-    ensures { λ r. ⌜ typedOf (now (img .entry)) r ≡ expr (contractAt (now (img .entry))) (exprAs kLiteral (exprAt d (now (img .entry))) (now (img .entry)) at) (envOf (now (img .entry)) (now (env .entry)) top) ⌝ }
+    ensures { λ r. ⌜ Gives (now (img .entry)) (now (env .entry)) top r (exprOf kLiteral d (now (img .entry)) at) ⌝ }
 {
     let x = records::body(img, at);
     let list = records::past(img, x);
     let s = tables::struct_named(img, tables, x);
     match s {
         Found::At(_, p) => {
-            let k = analyze_inits(
-                img,
-                tables,
-                records::body(img, list),
-                records::past(img, list),
-                64,
-                d,
-                env,
-                top,
-                p,
-            );
+            let k = analyze_inits(img, tables, list, d, env, top, p);
             match k {
                 Checked::Fine => Typed::Is(Ty::Struct(x)),
                 Checked::Refused(f) => Typed::Refused(f),
@@ -276,7 +267,7 @@ fn analyze_expr(
     top: usize,
 ) -> Typed
     requires { ⌜ Tabled (now img) (now tables) ⌝ }
-    ensures { λ r. ⌜ typedOf (now (img .entry)) r ≡ expr (contractAt (now (img .entry))) (exprAt d (now (img .entry)) at) (envOf (now (img .entry)) (now (env .entry)) top) ⌝ }
+    ensures { λ r. ⌜ Gives (now (img .entry)) (now (env .entry)) top r (exprAt d (now (img .entry)) at) ⌝ }
 {
     if d == 0 {
         return Typed::Is(Ty::Unknown);
@@ -335,10 +326,9 @@ fn analyze_assign(
     d: usize,
     env: &[usize],
     top: usize,
-    ret: Ty,
 ) -> After
     requires { ⌜ Tabled (now img) (now tables) ⌝ }
-    ensures { λ r. ⌜ Step (now (img .entry)) (now (env .entry)) (now (env .entry)) top r (tyOf (now (img .entry)) ret) (stmtAs sAssign (exprAt d (now (img .entry))) (stmtAt d (now (img .entry))) (now (img .entry)) at) ⌝ }
+    ensures { λ r. ⌜ ((R : Typ) → Step (now (img .entry)) (now (env .entry)) (now (env .entry)) top r R (stmtOf sAssign d (now (img .entry)) at)) ⌝ }
 {
     let x = records::body(img, at);
     let g = lookup::find_local(img, env, top, x);
@@ -362,10 +352,9 @@ fn analyze_write(
     d: usize,
     env: &[usize],
     top: usize,
-    ret: Ty,
 ) -> After
     requires { ⌜ Tabled (now img) (now tables) ⌝ }
-    ensures { λ r. ⌜ Step (now (img .entry)) (now (env .entry)) (now (env .entry)) top r (tyOf (now (img .entry)) ret) (stmtAs sMapping (exprAt d (now (img .entry))) (stmtAt d (now (img .entry))) (now (img .entry)) at) ⌝ }
+    ensures { λ r. ⌜ ((R : Typ) → Step (now (img .entry)) (now (env .entry)) (now (env .entry)) top r R (stmtOf sMapping d (now (img .entry)) at)) ⌝ }
 {
     let key = records::past(img, records::body(img, at));
     let t = analyze_expr(img, tables, key, d, env, top);
@@ -386,7 +375,7 @@ fn analyze_return(
     ret: Ty,
 ) -> After
     requires { ⌜ Tabled (now img) (now tables) ⌝ }
-    ensures { λ r. ⌜ Step (now (img .entry)) (now (env .entry)) (now (env .entry)) top r (tyOf (now (img .entry)) ret) (stmtAs sReturn (exprAt d (now (img .entry))) (stmtAt d (now (img .entry))) (now (img .entry)) at) ⌝ }
+    ensures { λ r. ⌜ Step (now (img .entry)) (now (env .entry)) (now (env .entry)) top r (tyOf (now (img .entry)) ret) (stmtOf sReturn d (now (img .entry)) at) ⌝ }
 {
     let value = records::body(img, at);
     if value < records::past(img, at) {
@@ -408,23 +397,12 @@ fn analyze_emit(
     d: usize,
     env: &[usize],
     top: usize,
-    ret: Ty,
 ) -> After
     requires { ⌜ Tabled (now img) (now tables) ⌝ }
-    ensures { λ r. ⌜ Step (now (img .entry)) (now (env .entry)) (now (env .entry)) top r (tyOf (now (img .entry)) ret) (stmtAs sEmit (exprAt d (now (img .entry))) (stmtAt d (now (img .entry))) (now (img .entry)) at) ⌝ }
+    ensures { λ r. ⌜ ((R : Typ) → Step (now (img .entry)) (now (env .entry)) (now (env .entry)) top r R (stmtOf sEmit d (now (img .entry)) at)) ⌝ }
 {
     let list = records::past(img, records::body(img, at));
-    let v = analyze_args(
-        img,
-        tables,
-        records::body(img, list),
-        records::past(img, list),
-        65536,
-        d,
-        env,
-        top,
-        Due::Words(0),
-    );
+    let v = analyze_args(img, tables, list, 65536, d, env, top, Due::Words(0));
     match v {
         Args::Done(_, _) => After::Top(top),
         Args::Refused(f) => After::Refused(f),
@@ -443,11 +421,11 @@ fn analyze_simple(
     ret: Ty,
 ) -> After
     requires { ⌜ (Tabled (now img) (now tables)) × ((k ≡ 32 → ⊥) × ((k ≡ 37 → ⊥) × ((k ≡ 38 → ⊥) × (k ≡ 39 → ⊥)))) ⌝ }
-    ensures { λ r. ⌜ Step (now (img .entry)) (now (env .entry)) (now (env .entry)) top r (tyOf (now (img .entry)) ret) (stmtAs (stmtKindOf k) (exprAt d (now (img .entry))) (stmtAt d (now (img .entry))) (now (img .entry)) at) ⌝ }
+    ensures { λ r. ⌜ Step (now (img .entry)) (now (env .entry)) (now (env .entry)) top r (tyOf (now (img .entry)) ret) (stmtOf (stmtKindOf k) d (now (img .entry)) at) ⌝ }
 {
     match k {
         33 => run_expr(img, tables, records::body(img, at), d, env, top),
-        34 => analyze_assign(img, tables, at, d, env, top, ret),
+        34 => analyze_assign(img, tables, at, d, env, top),
         35 => run_expr(
             img,
             tables,
@@ -456,9 +434,9 @@ fn analyze_simple(
             env,
             top,
         ),
-        36 => analyze_write(img, tables, at, d, env, top, ret),
+        36 => analyze_write(img, tables, at, d, env, top),
         40 => analyze_return(img, tables, at, d, env, top, ret),
-        41 => analyze_emit(img, tables, at, d, env, top, ret),
+        41 => analyze_emit(img, tables, at, d, env, top),
         42 => run_expr(img, tables, records::body(img, at), d, env, top),
         _ => After::Top(top),
     }
@@ -472,10 +450,9 @@ fn analyze_let(
     at: usize,
     d: usize,
     top: usize,
-    ret: Ty,
 ) -> After
     requires { ⌜ (Tabled (now img) (now tables)) × (top + 4 ≤ length (now env)) ⌝ }
-    ensures { λ r. ⌜ Step (now (img .entry)) (now (env .entry)) (now (env .exit)) top r (tyOf (now (img .entry)) ret) (stmtAs sLet (exprAt d (now (img .entry))) (stmtAt d (now (img .entry))) (now (img .entry)) at) ⌝ }
+    ensures { λ r. ⌜ ((R : Typ) → Step (now (img .entry)) (now (env .entry)) (now (env .exit)) top r R (stmtOf sLet d (now (img .entry)) at)) ⌝ }
 {
     let x = records::body(img, at);
     let t = analyze_expr(img, tables, records::past(img, x), d, env, top);
@@ -495,8 +472,8 @@ fn analyze_list(
     top: usize,
     ret: Ty,
 ) -> After
-    requires { ⌜ (Tabled (now img) (now tables)) × (top + 4 * vars-stmts (bodyAt (stmtAt d (now img)) (now img) at) ≤ length (now env)) ⌝ }
-    ensures { λ r. ⌜ Steps (now (img .entry)) (now (env .entry)) (now (env .exit)) top r (tyOf (now (img .entry)) ret) (bodyAt (stmtAt d (now (img .entry))) (now (img .entry)) at) ⌝ }
+    requires { ⌜ (Tabled (now img) (now tables)) × (top + 4 * vars-stmts (bodyOf d (now img) at) ≤ length (now env)) ⌝ }
+    ensures { λ r. ⌜ Steps (now (img .entry)) (now (env .entry)) (now (env .exit)) top r (tyOf (now (img .entry)) ret) (bodyOf d (now (img .entry)) at) ⌝ }
 {
     let end = records::past(img, at);
     let mut p = records::body(img, at);
@@ -532,8 +509,8 @@ fn analyze_else(
     top: usize,
     ret: Ty,
 ) -> After
-    requires { ⌜ (Tabled (now img) (now tables)) × (top + 4 * vars-stmts (elseAt (stmtAt d (now img)) (now img) at end) ≤ length (now env)) ⌝ }
-    ensures { λ r. ⌜ Steps (now (img .entry)) (now (env .entry)) (now (env .exit)) top r (tyOf (now (img .entry)) ret) (elseAt (stmtAt d (now (img .entry))) (now (img .entry)) at end) ⌝ }
+    requires { ⌜ (Tabled (now img) (now tables)) × (top + 4 * vars-stmts (elseOf d (now img) at end) ≤ length (now env)) ⌝ }
+    ensures { λ r. ⌜ Steps (now (img .entry)) (now (env .entry)) (now (env .exit)) top r (tyOf (now (img .entry)) ret) (elseOf d (now (img .entry)) at end) ⌝ }
 {
     if at < end {
         analyze_list(env, img, tables, at, d, top, ret)
@@ -552,8 +529,8 @@ fn analyze_if(
     top: usize,
     ret: Ty,
 ) -> After
-    requires { ⌜ (Tabled (now img) (now tables)) × (top + 4 * vars (stmtAs sIf (exprAt d (now img)) (stmtAt d (now img)) (now img) at) ≤ length (now env)) ⌝ }
-    ensures { λ r. ⌜ Step (now (img .entry)) (now (env .entry)) (now (env .exit)) top r (tyOf (now (img .entry)) ret) (stmtAs sIf (exprAt d (now (img .entry))) (stmtAt d (now (img .entry))) (now (img .entry)) at) ⌝ }
+    requires { ⌜ (Tabled (now img) (now tables)) × (top + 4 * vars (stmtOf sIf d (now img) at) ≤ length (now env)) ⌝ }
+    ensures { λ r. ⌜ Step (now (img .entry)) (now (env .entry)) (now (env .exit)) top r (tyOf (now (img .entry)) ret) (stmtOf sIf d (now (img .entry)) at) ⌝ }
 {
     let test = records::body(img, at);
     let then = records::past(img, test);
@@ -582,8 +559,8 @@ fn analyze_while(
     top: usize,
     ret: Ty,
 ) -> After
-    requires { ⌜ (Tabled (now img) (now tables)) × (top + 4 * vars (stmtAs sWhile (exprAt d (now img)) (stmtAt d (now img)) (now img) at) ≤ length (now env)) ⌝ }
-    ensures { λ r. ⌜ Step (now (img .entry)) (now (env .entry)) (now (env .exit)) top r (tyOf (now (img .entry)) ret) (stmtAs sWhile (exprAt d (now (img .entry))) (stmtAt d (now (img .entry))) (now (img .entry)) at) ⌝ }
+    requires { ⌜ (Tabled (now img) (now tables)) × (top + 4 * vars (stmtOf sWhile d (now img) at) ≤ length (now env)) ⌝ }
+    ensures { λ r. ⌜ Step (now (img .entry)) (now (env .entry)) (now (env .exit)) top r (tyOf (now (img .entry)) ret) (stmtOf sWhile d (now (img .entry)) at) ⌝ }
 {
     let test = records::body(img, at);
     let t = analyze_expr(img, tables, test, d, env, top);
@@ -604,8 +581,8 @@ fn analyze_loop(
     top: usize,
     ret: Ty,
 ) -> After
-    requires { ⌜ (Tabled (now img) (now tables)) × (top + 4 * (suc (vars-stmts (bodyAt (stmtAt d (now img)) (now img) at))) ≤ length (now env)) ⌝ }
-    ensures { λ r. ⌜ Stepped (now (img .entry)) (now (env .entry)) (now (env .exit)) top (suc (vars-stmts (bodyAt (stmtAt d (now (img .entry))) (now (img .entry)) at))) r (inLoop (contractAt (now (img .entry))) (tyOf (now (img .entry)) ret) (nameAt (now (img .entry)) x) (bodyAt (stmtAt d (now (img .entry))) (now (img .entry)) at) (envOf (now (img .entry)) (now (env .entry)) top)) ⌝ }
+    requires { ⌜ (Tabled (now img) (now tables)) × (top + 4 * (suc (vars-stmts (bodyOf d (now img) at))) ≤ length (now env)) ⌝ }
+    ensures { λ r. ⌜ Stepped (now (img .entry)) (now (env .entry)) (now (env .exit)) top (suc (vars-stmts (bodyOf d (now (img .entry)) at))) r (inLoop (contractAt (now (img .entry))) (tyOf (now (img .entry)) ret) (nameAt (now (img .entry)) x) (bodyOf d (now (img .entry)) at) (envOf (now (img .entry)) (now (env .entry)) top)) ⌝ }
 {
     let inner = lookup::push(env, img, top, x, Ty::U64);
     let a = analyze_list(env, img, tables, at, d, inner, ret);
@@ -625,8 +602,8 @@ fn analyze_for(
     top: usize,
     ret: Ty,
 ) -> After
-    requires { ⌜ (Tabled (now img) (now tables)) × (top + 4 * vars (stmtAs sFor (exprAt d (now img)) (stmtAt d (now img)) (now img) at) ≤ length (now env)) ⌝ }
-    ensures { λ r. ⌜ Step (now (img .entry)) (now (env .entry)) (now (env .exit)) top r (tyOf (now (img .entry)) ret) (stmtAs sFor (exprAt d (now (img .entry))) (stmtAt d (now (img .entry))) (now (img .entry)) at) ⌝ }
+    requires { ⌜ (Tabled (now img) (now tables)) × (top + 4 * vars (stmtOf sFor d (now img) at) ≤ length (now env)) ⌝ }
+    ensures { λ r. ⌜ Step (now (img .entry)) (now (env .entry)) (now (env .exit)) top r (tyOf (now (img .entry)) ret) (stmtOf sFor d (now (img .entry)) at) ⌝ }
 {
     let x = records::body(img, at);
     let from = records::past(img, x);
@@ -671,7 +648,7 @@ fn analyze_stmt(
     }
     let k = records::kind(img, at);
     match k {
-        32 => analyze_let(env, img, tables, at, d - 1, top, ret),
+        32 => analyze_let(env, img, tables, at, d - 1, top),
         37 => analyze_if(env, img, tables, at, d - 1, top, ret),
         38 => analyze_while(env, img, tables, at, d - 1, top, ret),
         39 => analyze_for(env, img, tables, at, d - 1, top, ret),

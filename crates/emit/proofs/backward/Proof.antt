@@ -1,12 +1,9 @@
-use mathlib.Core.Path.{_≡_, refl, sym, ap, _∙_}
+-- `backward` meets its contract.
+use mathlib.Core.Path.{refl}
 use Rattle.rules.specs.Machine.{bitsOf}
-use lib.ListN.{length-set}
 use native.Mathlib.Omega.{arith}
-use borrow.Author.Needs.{needs}
 use Rattle.emit.proofs.backward.Statement.{statement}
 use Rattle.emit.proofs.backward.Tie as tie
-use Rattle.emit.proofs.backward.Reads as reads
-use Rattle.emit.proofs.backward.Lts as lts
 
 -- src/lib.rt:133:1
 returns : tie.Need-returns

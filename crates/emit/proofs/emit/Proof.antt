@@ -1,15 +1,10 @@
+-- `emit` meets its contract.
 use Rattle.emit.specs.Leaves.{raw-word}
-use Rattle.rules.specs.Machine.{Imm, bitsOf}
-use mathlib.Core.Path.{_≡_, refl, sym, ap, _∙_}
-use lib.ListN.{length-set}
-use native.Mathlib.Omega.{arith}
+use Rattle.rules.specs.Machine.{bitsOf}
+use mathlib.Core.Path.{refl, _∙_}
 use borrow.Author.Needs.{needs}
 use Rattle.emit.proofs.emit.Statement.{statement}
 use Rattle.emit.proofs.emit.Tie as tie
-use Rattle.emit.proofs.emit.Reads as reads
-use Rattle.emit.proofs.emit.Lts as lts
-use Rattle.emit.proofs.put.Reads as put-reads
-use Rattle.emit.proofs.word.Reads as word-reads
 
 -- src/lib.rt:192:19
 word-requires : tie.Need-word-requires

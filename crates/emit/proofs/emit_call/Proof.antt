@@ -1,14 +1,9 @@
+-- `emit_call` meets its contract.
 use Rattle.emit.specs.Ran.{raw, callOf}
-use mathlib.Core.Path.{_≡_, refl, sym, ap, _∙_}
-use lib.ListN.{length-set}
-use native.Mathlib.Omega.{arith}
+use mathlib.Core.Path.{ap, _∙_}
 use borrow.Author.Needs.{needs}
 use Rattle.emit.proofs.emit_call.Statement.{statement}
 use Rattle.emit.proofs.emit_call.Tie as tie
-use Rattle.emit.proofs.emit_call.Reads as reads
-use Rattle.emit.proofs.emit_call.Lts as lts
-use Rattle.emit.proofs.open_call.Reads as open-call-reads
-use Rattle.emit.proofs.put.Reads as put-reads
 
 -- src/lib.rt:199:19
 open-call-requires : tie.Need-open-call-requires

@@ -1,13 +1,8 @@
+-- `emit_new` meets its contract.
 use Rattle.emit.specs.Leaves.{new-word}
-use lib.ListN.{length-set}
-use native.Mathlib.Omega.{arith}
 use borrow.Author.Needs.{needs}
 use Rattle.emit.proofs.emit_new.Statement.{statement}
 use Rattle.emit.proofs.emit_new.Tie as tie
-use Rattle.emit.proofs.emit_new.Reads as reads
-use Rattle.emit.proofs.emit_new.Lts as lts
-use Rattle.emit.proofs.St.alloc_reg.Reads as alloc-reg-reads
-use Rattle.emit.proofs.emit.Reads as emit-reads
 
 -- src/lib.rt:200:9
 alloc-reg-requires : tie.Need-alloc-reg-requires

@@ -1,12 +1,9 @@
-use mathlib.Core.Path.{_≡_, refl, sym, ap, _∙_}
+-- `open_call` meets its contract.
+use mathlib.Core.Path.{refl}
 use Rattle.emit.specs.Ran.{callOf}
-use lib.ListN.{length-set}
-use native.Mathlib.Omega.{arith}
 use borrow.Author.Needs.{needs}
 use Rattle.emit.proofs.open_call.Statement.{statement}
 use Rattle.emit.proofs.open_call.Tie as tie
-use Rattle.emit.proofs.open_call.Reads as reads
-use Rattle.emit.proofs.open_call.Lts as lts
 
 -- src/lib.rt:164:5
 add-result : tie.Need-add-result

@@ -1,13 +1,10 @@
+-- `patch` meets its contract.
 use Rattle.emit.specs.Window.{shown, hidden}
 use lib.Seq.{set-out}
-use mathlib.Core.Path.{_≡_, refl, sym, ap, _∙_}
-use lib.ListN.{length-set}
-use native.Mathlib.Omega.{arith}
+use mathlib.Core.Path.{sym, _∙_}
 use borrow.Author.Needs.{needs}
 use Rattle.emit.proofs.patch.Statement.{statement}
 use Rattle.emit.proofs.patch.Tie as tie
-use Rattle.emit.proofs.patch.Reads as reads
-use Rattle.emit.proofs.patch.Lts as lts
 
 -- src/lib.rt:174:13
 mul-code : tie.Need-mul-code

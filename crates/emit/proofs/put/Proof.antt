@@ -1,15 +1,9 @@
+-- `put` meets its contract.
 use Rattle.emit.specs.Ran.{raw}
 use Rattle.emit.specs.Refines.{adds}
-use mathlib.Core.Path.{_≡_, refl, sym, ap, _∙_}
-use lib.ListN.{length-set}
-use native.Mathlib.Omega.{arith}
 use borrow.Author.Needs.{needs}
 use Rattle.emit.proofs.put.Statement.{statement}
 use Rattle.emit.proofs.put.Tie as tie
-use Rattle.emit.proofs.put.Reads as reads
-use Rattle.emit.proofs.put.Lts as lts
-use Rattle.emit.proofs.St.reserve.Reads as reserve-reads
-use Rattle.emit.proofs.patch.Reads as patch-reads
 
 -- src/lib.rt:184:5
 patch-requires : tie.Need-patch-requires

@@ -1,14 +1,11 @@
+-- `word` meets its contract.
 use Rattle.emit.specs.Leaves.{whole}
 use Rattle.emit.specs.Ran.{orZero}
-use mathlib.Core.Path.{_≡_, refl, sym, ap, _∙_}
-use lib.ListN.{length-set}
+use mathlib.Core.Path.{sym, ap, _∙_}
 use native.Mathlib.Omega.{arith}
 use borrow.Author.Needs.{needs}
 use Rattle.emit.proofs.word.Statement.{statement}
 use Rattle.emit.proofs.word.Tie as tie
-use Rattle.emit.proofs.word.Reads as reads
-use Rattle.emit.proofs.word.Lts as lts
-use Rattle.isa.proofs.Instruction.encode.Reads as encode-reads
 
 -- src/lib.rt:152:14
 cast-t9 : tie.Need-cast-t9

@@ -1,12 +1,8 @@
+-- `gen_ident` meets its contract.
 use Rattle.expr.proofs.Walk.{ident}
-use mathlib.Core.Path.{_≡_, refl, sym, ap, _∙_}
 use borrow.Author.Needs.{needs}
 use Rattle.expr.proofs.gen_ident.Statement.{statement}
 use Rattle.expr.proofs.gen_ident.Tie as tie
-use Rattle.expr.proofs.gen_ident.Reads as reads
-use Rattle.expr.proofs.gen_ident.Lts as lts
-use Rattle.expr.proofs.local.Reads as local-reads
-use Rattle.records.proofs.body.Reads as body-reads
 
 -- src/lib.rt:68:23
 body-requires : tie.Need-body-requires

@@ -1,13 +1,8 @@
+-- `gen_int` meets its contract.
 use Rattle.expr.proofs.Walk.{int-small, int-big}
-use mathlib.Core.Path.{_≡_, refl, sym, ap, _∙_}
 use borrow.Author.Needs.{needs}
 use Rattle.expr.proofs.gen_int.Statement.{statement}
 use Rattle.expr.proofs.gen_int.Tie as tie
-use Rattle.expr.proofs.gen_int.Reads as reads
-use Rattle.expr.proofs.gen_int.Lts as lts
-use Rattle.emit.proofs.emit_new.Reads as emit-new-reads
-use Rattle.expr.proofs.steps.gen_big.Reads as gen-big-reads
-use Rattle.records.proofs.int.Reads as int-reads
 
 -- src/lib.rt:57:9
 int-requires : tie.Need-int-requires

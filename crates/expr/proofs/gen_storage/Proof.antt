@@ -1,14 +1,8 @@
+-- `gen_storage` meets its contract.
 use Rattle.expr.proofs.Walk.{storage-value}
-use mathlib.Core.Path.{_≡_, refl, sym, ap, _∙_}
 use borrow.Author.Needs.{needs}
 use Rattle.expr.proofs.gen_storage.Statement.{statement}
 use Rattle.expr.proofs.gen_storage.Tie as tie
-use Rattle.expr.proofs.gen_storage.Reads as reads
-use Rattle.expr.proofs.gen_storage.Lts as lts
-use Rattle.emit.proofs.St.alloc_reg.Reads as alloc-reg-reads
-use Rattle.emit.proofs.emit.Reads as emit-reads
-use Rattle.expr.proofs.storage_slot.Reads as storage-slot-reads
-use Rattle.records.proofs.body.Reads as body-reads
 
 -- src/lib.rt:76:9
 alloc-reg-requires : tie.Need-alloc-reg-requires

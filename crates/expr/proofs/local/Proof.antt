@@ -1,13 +1,8 @@
+-- `local` meets its contract.
 use Rattle.expr.proofs.Asked.{finds, finds-not}
-use mathlib.Core.Path.{_≡_, refl, sym, ap, _∙_}
 use borrow.Author.Needs.{needs}
 use Rattle.expr.proofs.local.Statement.{statement}
 use Rattle.expr.proofs.local.Tie as tie
-use Rattle.expr.proofs.local.Reads as reads
-use Rattle.expr.proofs.local.Lts as lts
-use Rattle.emit.proofs.St.fail.Reads as fail-reads
-use Rattle.emit.proofs.St.with.Reads as with-reads
-use Rattle.expr.proofs.names.lookup.Reads as lookup-reads
 
 -- src/lib.rt:36:11
 lookup-requires : tie.Need-lookup-requires

@@ -1,12 +1,8 @@
+-- `storage_slot` meets its contract.
 use Rattle.expr.proofs.Asked.{has-slot, no-slot}
-use mathlib.Core.Path.{_≡_, refl, sym, ap, _∙_}
 use borrow.Author.Needs.{needs}
 use Rattle.expr.proofs.storage_slot.Statement.{statement}
 use Rattle.expr.proofs.storage_slot.Tie as tie
-use Rattle.expr.proofs.storage_slot.Reads as reads
-use Rattle.expr.proofs.storage_slot.Lts as lts
-use Rattle.emit.proofs.St.fail.Reads as fail-reads
-use Rattle.tables.proofs.storage_named.Reads as storage-named-reads
 
 -- src/lib.rt:47:11
 storage-named-requires : tie.Need-storage-named-requires

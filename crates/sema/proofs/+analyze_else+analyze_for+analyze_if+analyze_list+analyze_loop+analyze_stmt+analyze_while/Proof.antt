@@ -396,7 +396,7 @@ analyze-stmt-same-length t c = search needs
 
 analyze-stmt-returns-2 : (t : ℕ) → analyze-stmt-lts.Need-returns-2 (analyze-stmt-told t) (analyze-stmt-at t) analyze-stmt.Post
 unfolding stmtKindOf pick
-analyze-stmt-returns-2 t c = rw (stmt-kind (c .before .before .before .before .before .before .before .before .before .before .args .d) (c .before .before .before .before .before .before .before .before .before .before .args .img .now) (c .before .before .before .before .before .before .before .before .before .before .args .at) (c .before .before .before .before .before .kind .result) sLet (c .before .before .before .before .before .before .if1 .left) (c .before .before .before .before .before .kind .ensures .0) (ap stmtKindOf (c .before .before .before .before .match .keys1))) (c .before .before .analyze-let .ensures)
+analyze-stmt-returns-2 t c = rw (stmt-kind (c .before .before .before .before .before .before .before .before .before .before .args .d) (c .before .before .before .before .before .before .before .before .before .before .args .img .now) (c .before .before .before .before .before .before .before .before .before .before .args .at) (c .before .before .before .before .before .kind .result) sLet (c .before .before .before .before .before .before .if1 .left) (c .before .before .before .before .before .kind .ensures .0) (ap stmtKindOf (c .before .before .before .before .match .keys1))) (c .before .before .analyze-let .ensures _)
 
 analyze-stmt-same-length-2 : (t : ℕ) → analyze-stmt-lts.Need-same-length-2 (analyze-stmt-told t) (analyze-stmt-at t) analyze-stmt.Post
 analyze-stmt-same-length-2 t c = search needs

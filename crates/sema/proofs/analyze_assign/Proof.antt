@@ -40,15 +40,15 @@ enum-told c = search needs
 
 returns : tie.Need-returns
 unfolding stmt stmtAs vars typedOf gotOf
-returns c = first-ok _ (known-some _ (sym (ap (gotOf (c .before .before .before .before .before .before .before .before .before .before .before .before .before .before .args .img .now)) (c .before .before .before .before .before .before .before .g .given .1)) ∙ rw (c .before .before .before .before .before .before .before .before .before .before .body .ensures .0) at (c .before .before .before .before .before .before .before .before .before .find-local .ensures))) (first-ok _ (sym (ap (typedOf (c .before .before .before .before .before .before .before .before .before .before .before .before .before .before .args .img .now)) (c .before .before .t .given .1)) ∙ rw (c .before .before .before .before .before .past .ensures .0, c .before .before .before .before .before .before .before .before .before .before .body .ensures .0) at (c .before .before .before .before .analyze-expr .ensures)) (c .assigned .ensures (c .before .before .before .before .before .before .before .before .before .before .before .before .before .before .args .env .now)))
+returns c = λ R. first-ok _ (known-some _ (sym (ap (gotOf (c .before .before .before .before .before .before .before .before .before .before .before .before .before .before .args .img .now)) (c .before .before .before .before .before .before .before .g .given .1)) ∙ rw (c .before .before .before .before .before .before .before .before .before .before .body .ensures .0) at (c .before .before .before .before .before .before .before .before .before .find-local .ensures))) (first-ok _ (sym (ap (typedOf (c .before .before .before .before .before .before .before .before .before .before .before .before .before .before .args .img .now)) (c .before .before .t .given .1)) ∙ rw (c .before .before .before .before .before .past .ensures .0, c .before .before .before .before .before .before .before .before .before .before .body .ensures .0) at (c .before .before .before .before .analyze-expr .ensures)) (c .assigned .ensures (c .before .before .before .before .before .before .before .before .before .before .before .before .before .before .args .env .now)))
 
 returns-2 : tie.Need-returns-2
 unfolding stmt stmtAs vars typedOf gotOf
-returns-2 c = first-ok _ (known-some _ (sym (ap (gotOf (c .before .before .before .before .before .before .before .before .before .before .before .before .before .args .img .now)) (c .before .before .before .before .before .before .g .given .1)) ∙ rw (c .before .before .before .before .before .before .before .before .before .body .ensures .0) at (c .before .before .before .before .before .before .before .before .find-local .ensures))) (first-bad _ (sym (ap (typedOf (c .before .before .before .before .before .before .before .before .before .before .before .before .before .args .img .now)) (c .before .t2 .given .1)) ∙ rw (c .before .before .before .before .past .ensures .0, c .before .before .before .before .before .before .before .before .before .body .ensures .0) at (c .before .before .before .analyze-expr .ensures)))
+returns-2 c = λ R. first-ok _ (known-some _ (sym (ap (gotOf (c .before .before .before .before .before .before .before .before .before .before .before .before .before .args .img .now)) (c .before .before .before .before .before .before .g .given .1)) ∙ rw (c .before .before .before .before .before .before .before .before .before .body .ensures .0) at (c .before .before .before .before .before .before .before .before .find-local .ensures))) (first-bad _ (sym (ap (typedOf (c .before .before .before .before .before .before .before .before .before .before .before .before .before .args .img .now)) (c .before .t2 .given .1)) ∙ rw (c .before .before .before .before .past .ensures .0, c .before .before .before .before .before .before .before .before .before .body .ensures .0) at (c .before .before .before .analyze-expr .ensures)))
 
 returns-3 : tie.Need-returns-3
 unfolding stmt stmtAs vars faultOf gotOf
-returns-3 c = still-bad (rw (c .before .before .before .body .ensures .0) (then-bad _ (known-none _ (sym (ap (gotOf (c .before .before .before .before .before .before .before .args .img .now)) (c .enum-told .given .1)) ∙ rw (c .before .before .before .body .ensures .0) at (c .before .before .find-local .ensures)))))
+returns-3 c = λ R. still-bad (rw (c .before .before .before .body .ensures .0) (then-bad _ (known-none _ (sym (ap (gotOf (c .before .before .before .before .before .before .before .args .img .now)) (c .enum-told .given .1)) ∙ rw (c .before .before .before .body .ensures .0) at (c .before .before .find-local .ensures)))))
 
 pub analyze-assign-spec : {M : Type 1} → statement M
 analyze-assign-spec =

@@ -6,8 +6,8 @@ use Rattle.rules.specs.Read.{stmtAs}
 use Rattle.sema.proofs.Lists.{emit-bad, emit-done}
 use Rattle.sema.proofs.Runs.{still-bad, still-ok}
 use Rattle.sema.specs.Arguments.{argsOf}
-use mathlib.Core.Path.{_∙_, ap, sym}
 use borrow.Author.Needs.{needs}
+use mathlib.Core.Path.{_∙_, ap, sym}
 use Rattle.sema.proofs.analyze_emit.Statement.{statement}
 use Rattle.sema.proofs.analyze_emit.Tie as tie
 
@@ -17,14 +17,8 @@ body-requires c κs = search needs
 past-requires : tie.Need-past-requires
 past-requires c κs = search needs
 
-body-requires-2 : tie.Need-body-requires-2
-body-requires-2 c κs = search needs
-
-past-requires-2 : tie.Need-past-requires-2
-past-requires-2 c κs = search needs
-
 analyze-args-requires : tie.Need-analyze-args-requires
-analyze-args-requires c κs = c .before .before .before .before .before .before .before .pre
+analyze-args-requires c κs = c .before .before .before .before .before .pre
 
 enum-told : tie.Need-enum-told
 enum-told c = search needs
@@ -34,11 +28,11 @@ enum-known-v c = search needs
 
 returns : tie.Need-returns
 unfolding stmt stmtAs vars argsOf
-returns c = still-ok (emit-done _ _ _ (sym (ap (argsOf (c .before .before .before .before .before .before .before .before .before .before .args .img .now)) (c .enum-told .given .1)) ∙ rw (c .before .before .before .before .body2 .ensures .0, c .before .before .before .past2 .ensures .0, c .before .before .before .before .before .past .ensures .0, c .before .before .before .before .before .before .body .ensures .0) at (c .before .before .analyze-args .ensures)))
+returns c = λ R. still-ok (emit-done _ _ _ (sym (ap (argsOf (c .before .before .before .before .before .before .before .before .args .img .now)) (c .enum-told .given .1)) ∙ rw (c .before .before .before .past .ensures .0, c .before .before .before .before .body .ensures .0) at (c .before .before .analyze-args .ensures)))
 
 returns-2 : tie.Need-returns-2
 unfolding stmt stmtAs vars argsOf
-returns-2 c = still-bad (emit-bad _ _ _ _ (sym (ap (argsOf (c .before .before .before .before .before .before .before .before .before .before .before .args .img .now)) (c .before .v .given .1)) ∙ rw (c .before .before .before .before .before .body2 .ensures .0, c .before .before .before .before .past2 .ensures .0, c .before .before .before .before .before .before .past .ensures .0, c .before .before .before .before .before .before .before .body .ensures .0) at (c .before .before .before .analyze-args .ensures)))
+returns-2 c = λ R. still-bad (emit-bad _ _ _ _ (sym (ap (argsOf (c .before .before .before .before .before .before .before .before .before .args .img .now)) (c .before .v .given .1)) ∙ rw (c .before .before .before .before .past .ensures .0, c .before .before .before .before .before .body .ensures .0) at (c .before .before .before .analyze-args .ensures)))
 
 pub analyze-emit-spec : {M : Type 1} → statement M
 analyze-emit-spec =
@@ -46,8 +40,6 @@ analyze-emit-spec =
     (tie.spec
     body-requires
     past-requires
-    body-requires-2
-    past-requires-2
     analyze-args-requires
     enum-told
     enum-known-v

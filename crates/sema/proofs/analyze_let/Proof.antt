@@ -33,14 +33,14 @@ same-length c = search needs
 
 returns : tie.Need-returns
 unfolding stmt stmtAs vars typedOf
-returns c = first-ok _ (sym (ap (typedOf (c .before .before .before .before .before .before .before .before .before .before .before .before .before .before .args .img .now)) (c .before .before .before .before .before .t .given .1)) ∙ rw (c .before .before .before .before .before .before .before .before .before .past .ensures .0, c .before .before .before .before .before .before .before .before .before .before .body .ensures .0) at (c .before .before .before .before .before .before .before .analyze-expr .ensures)) (rw (c .before .before .before .before .before .before .before .before .before .before .body .ensures .0) at (push-step (c .before .before .push .ensures)))
+returns c = λ R. first-ok _ (sym (ap (typedOf (c .before .before .before .before .before .before .before .before .before .before .before .before .before .before .args .img .now)) (c .before .before .before .before .before .t .given .1)) ∙ rw (c .before .before .before .before .before .before .before .before .before .past .ensures .0, c .before .before .before .before .before .before .before .before .before .before .body .ensures .0) at (c .before .before .before .before .before .before .before .analyze-expr .ensures)) (rw (c .before .before .before .before .before .before .before .before .before .before .body .ensures .0) at (push-step (c .before .before .push .ensures)))
 
 same-length-2 : tie.Need-same-length-2
 same-length-2 c = search needs
 
 returns-2 : tie.Need-returns-2
 unfolding stmt stmtAs vars typedOf
-returns-2 c = first-bad _ (sym (ap (typedOf (c .before .before .before .before .before .before .before .before .before .before .args .img .now)) (c .before .t2 .given .1)) ∙ rw (c .before .before .before .before .before .past .ensures .0, c .before .before .before .before .before .before .body .ensures .0) at (c .before .before .before .analyze-expr .ensures))
+returns-2 c = λ R. first-bad _ (sym (ap (typedOf (c .before .before .before .before .before .before .before .before .before .before .args .img .now)) (c .before .t2 .given .1)) ∙ rw (c .before .before .before .before .before .past .ensures .0, c .before .before .before .before .before .before .body .ensures .0) at (c .before .before .before .analyze-expr .ensures))
 
 pub analyze-let-spec : {M : Type 1} → statement M
 analyze-let-spec =

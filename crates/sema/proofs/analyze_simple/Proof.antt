@@ -51,7 +51,7 @@ returns c = rw (c .before .before .match .keys1) (rw (c .before .body .ensures .
 
 returns-2 : tie.Need-returns-2
 unfolding stmtKindOf pick
-returns-2 c = rw (c .before .match .keys2) (c .analyze-assign .ensures)
+returns-2 c = rw (c .before .match .keys2) (c .analyze-assign .ensures _)
 
 returns-3 : tie.Need-returns-3
 unfolding stmt stmtAs vars stmtKindOf pick only
@@ -59,7 +59,7 @@ returns-3 c = rw (c .before .before .before .match .keys3) (rw (c .before .past 
 
 returns-4 : tie.Need-returns-4
 unfolding stmtKindOf pick
-returns-4 c = rw (c .before .match .keys4) (c .analyze-write .ensures)
+returns-4 c = rw (c .before .match .keys4) (c .analyze-write .ensures _)
 
 returns-5 : tie.Need-returns-5
 unfolding stmtKindOf pick
@@ -67,7 +67,7 @@ returns-5 c = rw (c .before .match .keys5) (c .analyze-return .ensures)
 
 returns-6 : tie.Need-returns-6
 unfolding stmtKindOf pick
-returns-6 c = rw (c .before .match .keys6) (c .analyze-emit .ensures)
+returns-6 c = rw (c .before .match .keys6) (c .analyze-emit .ensures _)
 
 returns-7 : tie.Need-returns-7
 unfolding stmt stmtAs vars stmtKindOf pick only

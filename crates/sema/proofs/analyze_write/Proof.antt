@@ -34,11 +34,11 @@ enum-known-t c = search needs
 
 returns : tie.Need-returns
 unfolding stmt stmtAs vars typedOf only
-returns c = first-ok _ (sym (ap (typedOf (c .before .before .before .before .before .before .before .before .before .before .args .img .now)) (c .before .before .enum-told .given .1)) ∙ rw (c .before .before .before .before .before .past .ensures .0, c .before .before .before .before .before .before .body .ensures .0) at (c .before .before .before .before .analyze-expr .ensures)) (rw (c .before .past2 .ensures .0, c .before .before .before .before .before .past .ensures .0, c .before .before .before .before .before .before .body .ensures .0) at (c .run-expr .ensures))
+returns c = λ R. first-ok _ (sym (ap (typedOf (c .before .before .before .before .before .before .before .before .before .before .args .img .now)) (c .before .before .enum-told .given .1)) ∙ rw (c .before .before .before .before .before .past .ensures .0, c .before .before .before .before .before .before .body .ensures .0) at (c .before .before .before .before .analyze-expr .ensures)) (rw (c .before .past2 .ensures .0, c .before .before .before .before .before .past .ensures .0, c .before .before .before .before .before .before .body .ensures .0) at (c .run-expr .ensures))
 
 returns-2 : tie.Need-returns-2
 unfolding stmt stmtAs vars typedOf
-returns-2 c = first-bad _ (sym (ap (typedOf (c .before .before .before .before .before .before .before .before .before .args .img .now)) (c .before .t .given .1)) ∙ rw (c .before .before .before .before .past .ensures .0, c .before .before .before .before .before .body .ensures .0) at (c .before .before .before .analyze-expr .ensures))
+returns-2 c = λ R. first-bad _ (sym (ap (typedOf (c .before .before .before .before .before .before .before .before .before .args .img .now)) (c .before .t .given .1)) ∙ rw (c .before .before .before .before .past .ensures .0, c .before .before .before .before .before .body .ensures .0) at (c .before .before .before .analyze-expr .ensures))
 
 pub analyze-write-spec : {M : Type 1} → statement M
 analyze-write-spec =

@@ -1,17 +1,11 @@
+-- `alloc_reg` meets its contract.
 use Prim.Native.Nat.{ℕ, _+_}
 use Rattle.emit.specs.State.{moved}
 use Rattle.emit.specs.Leaves.{took, took-not}
-use mathlib.Core.Path.{_≡_, refl, sym, ap, _∙_}
-use lib.ListN.{length-set}
-use native.Mathlib.Omega.{arith}
+use mathlib.Core.Path.{ap, _∙_}
 use borrow.Author.Needs.{needs}
 use Rattle.emit.proofs.St.alloc_reg.Statement.{statement}
 use Rattle.emit.proofs.St.alloc_reg.Tie as tie
-use Rattle.emit.proofs.St.alloc_reg.Reads as reads
-use Rattle.emit.proofs.St.alloc_reg.Lts as lts
-use Rattle.emit.proofs.St.fail.Reads as fail-reads
-use Rattle.emit.proofs.St.with.Reads as with-reads
-use Rattle.emit.proofs.wide.Reads as wide-reads
 
 -- src/lib.rt:88:13
 wide-requires : tie.Need-wide-requires

@@ -1,12 +1,10 @@
+-- `builtin_named` meets its contract.
 use Rattle.expr.proofs.Asked.{is-poseidon, is-sender, is-nonce, is-number, is-merkle, is-none}
 use Rattle.expr.specs.Names.{builtinOf}
-use mathlib.Core.Path.{_≡_, refl, sym, ap, _∙_}
+use mathlib.Core.Path.{sym, _∙_}
 use borrow.Author.Needs.{needs}
 use Rattle.expr.proofs.names.builtin_named.Statement.{statement}
 use Rattle.expr.proofs.names.builtin_named.Tie as tie
-use Rattle.expr.proofs.names.builtin_named.Reads as reads
-use Rattle.expr.proofs.names.builtin_named.Lts as lts
-use Rattle.records.proofs.is_name.Reads as is-name-reads
 
 -- src/names.rt:80:33
 slice-aggregate-is-name : tie.Need-slice-aggregate-is-name

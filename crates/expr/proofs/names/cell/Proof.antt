@@ -1,10 +1,9 @@
+-- `cell` meets its contract.
 use lib.ListN.{List·getD-eq-default}
 use mathlib.Core.Path.{sym}
 use borrow.Author.Needs.{needs}
 use Rattle.expr.proofs.names.cell.Statement.{statement}
 use Rattle.expr.proofs.names.cell.Tie as tie
-use Rattle.expr.proofs.names.cell.Reads as reads
-use Rattle.expr.proofs.names.cell.Lts as lts
 
 -- src/names.rt:45:22
 mul-result : tie.Need-mul-result

@@ -1,16 +1,12 @@
+-- `field_offset` meets its contract.
 use Rattle.expr.proofs.Fields.{Ahead, passes, found-first, found-none}
 use Rattle.rules.specs.Bytes.{nameAt}
 use Prim.Native.Nat.{_-_, _≤_}
 use borrow.Author.Needs.{needs}
 use native.Mathlib.Omega.{arith}
-use mathlib.Core.Path.{_≡_, refl, sym, ap, _∙_}
+use mathlib.Core.Path.{refl}
 use Rattle.expr.proofs.names.field_offset.Statement.{statement}
 use Rattle.expr.proofs.names.field_offset.Tie as tie
-use Rattle.expr.proofs.names.field_offset.Reads as reads
-use Rattle.expr.proofs.names.field_offset.Lts as lts
-use Rattle.expr.proofs.names.kept_position.Reads as kept-position-reads
-use Rattle.tables.proofs.struct_count.Reads as struct-count-reads
-use Rattle.tables.proofs.struct_place.Reads as struct-place-reads
 
 abbrev Inv-loop : tie.InvT-loop
 Inv-loop img tables x n i₀ i = (i ≤ n) × Ahead img (nameAt img x) i

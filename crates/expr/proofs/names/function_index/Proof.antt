@@ -1,11 +1,8 @@
+-- `function_index` meets its contract.
 use Rattle.expr.proofs.Asked.{has-function, no-function}
-use mathlib.Core.Path.{_≡_, refl, sym, ap, _∙_}
 use borrow.Author.Needs.{needs}
 use Rattle.expr.proofs.names.function_index.Statement.{statement}
 use Rattle.expr.proofs.names.function_index.Tie as tie
-use Rattle.expr.proofs.names.function_index.Reads as reads
-use Rattle.expr.proofs.names.function_index.Lts as lts
-use Rattle.tables.proofs.function_named.Reads as function-named-reads
 
 -- src/names.rt:80:11
 function-named-requires : tie.Need-function-named-requires

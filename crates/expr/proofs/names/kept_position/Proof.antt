@@ -1,16 +1,11 @@
+-- `kept_position` meets its contract.
 use mathlib.Core.List.{[]}
 use Rattle.expr.proofs.Fields.{kept-here, not-here, never-none}
 use Rattle.tables.specs.Listed.{indexOf}
-use mathlib.Core.Path.{_≡_, refl, sym, ap, _∙_}
+use mathlib.Core.Path.{sym, ap, _∙_}
 use borrow.Author.Needs.{needs}
 use Rattle.expr.proofs.names.kept_position.Statement.{statement}
 use Rattle.expr.proofs.names.kept_position.Tie as tie
-use Rattle.expr.proofs.names.kept_position.Reads as reads
-use Rattle.expr.proofs.names.kept_position.Lts as lts
-use Rattle.expr.proofs.names.position.Reads as position-reads
-use Rattle.records.proofs.body.Reads as body-reads
-use Rattle.records.proofs.past.Reads as past-reads
-use Rattle.tables.proofs.struct_named.Reads as struct-named-reads
 
 -- src/names.rt:130:9
 body-requires : tie.Need-body-requires

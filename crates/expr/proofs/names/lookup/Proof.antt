@@ -1,3 +1,4 @@
+-- `lookup` meets its contract.
 use Rattle.expr.proofs.Find.{find-hit, skip-name, skip-key, find-none}
 use Rattle.expr.specs.Names.{regOf}
 use Rattle.expr.specs.Scope.{scopeOf, scopeIn}
@@ -5,16 +6,10 @@ use Rattle.rules.specs.Emit.{find}
 use Rattle.rules.specs.Bytes.{nameAt}
 use Prim.Native.Nat.{_≤_}
 use native.Mathlib.Omega.{arith}
-use mathlib.Core.Path.{_≡_, refl, sym, ap, _∙_}
+use mathlib.Core.Path.{_≡_, refl, sym, _∙_}
 use borrow.Author.Needs.{needs}
 use Rattle.expr.proofs.names.lookup.Statement.{statement}
 use Rattle.expr.proofs.names.lookup.Tie as tie
-use Rattle.expr.proofs.names.lookup.Reads as reads
-use Rattle.expr.proofs.names.lookup.Lts as lts
-use Rattle.expr.proofs.names.cell.Reads as cell-reads
-use Rattle.expr.proofs.names.names_in.Reads as names-in-reads
-use Rattle.records.proofs.name_key.Reads as name-key-reads
-use Rattle.records.proofs.same_name.Reads as same-name-reads
 
 abbrev Inv-loop : tie.InvT-loop
 Inv-loop img scope x key k₀ k = (k ≤ 512) × (find (nameAt img x) (scopeOf img scope k) ≡ find (nameAt img x) (scopeIn img scope))

@@ -1,3 +1,4 @@
+-- `position` meets its contract.
 use borrow.Author.Tests.{ltb-true, ltb-false}
 use Rattle.expr.proofs.Fields.{fieldsFrom, field-hit, field-next, field-past, field-full}
 use Rattle.expr.proofs.Asked.{Sought, sought, placed, nowhere}
@@ -6,15 +7,10 @@ use Rattle.rules.specs.Tables.{first-index}
 use Rattle.rules.specs.Bytes.{nameAt}
 use Prim.Native.Nat.{_-_, _≤_}
 use native.Mathlib.Omega.{arith}
-use mathlib.Core.Path.{_≡_, refl, sym, ap, _∙_}
+use mathlib.Core.Path.{sym, _∙_}
 use borrow.Author.Needs.{needs}
 use Rattle.expr.proofs.names.position.Statement.{statement}
 use Rattle.expr.proofs.names.position.Tie as tie
-use Rattle.expr.proofs.names.position.Reads as reads
-use Rattle.expr.proofs.names.position.Lts as lts
-use Rattle.records.proofs.body.Reads as body-reads
-use Rattle.records.proofs.past.Reads as past-reads
-use Rattle.records.proofs.same_name.Reads as same-name-reads
 
 abbrev Inv-loop : tie.InvT-loop
 Inv-loop img l x e p₀ n₀ p n = (n ≤ 64) × Sought img l (nameAt img x) (first-index (λ (f : Field). f .name) n (nameAt img x) (fieldsFrom img (64 - n) p e))

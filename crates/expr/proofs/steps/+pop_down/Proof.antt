@@ -1,5 +1,5 @@
+-- `pop_down` meets its contract.
 use Rattle.expr.proofs.Chain.{pop-zero, pop-more}
-use mathlib.Core.Path.{_≡_, refl, sym, ap, _∙_}
 use borrow.Author.Needs.{needs}
 use Prim.Native.Nat.{ℕ, _<_}
 use borrow.Fn.Kinds.{In}

@@ -1,5 +1,5 @@
+-- `push_all` meets its contract.
 use Rattle.expr.proofs.Chain.{argue-none, argue-more}
-use mathlib.Core.Path.{_≡_, refl, sym, ap, _∙_}
 use borrow.Author.Needs.{needs}
 use Prim.Native.Nat.{ℕ, _-_, _<_}
 use borrow.Fn.Kinds.{In}

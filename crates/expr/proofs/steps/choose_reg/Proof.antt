@@ -1,13 +1,8 @@
+-- `choose_reg` meets its contract.
 use Rattle.expr.proofs.Chain.{left-chosen, right-chosen, new-chosen}
-use mathlib.Core.Path.{_≡_, refl, sym, ap, _∙_}
 use borrow.Author.Needs.{needs}
 use Rattle.expr.proofs.steps.choose_reg.Statement.{statement}
 use Rattle.expr.proofs.steps.choose_reg.Tie as tie
-use Rattle.expr.proofs.steps.choose_reg.Reads as reads
-use Rattle.expr.proofs.steps.choose_reg.Lts as lts
-use Rattle.emit.proofs.St.alloc_reg.Reads as alloc-reg-reads
-use Rattle.emit.proofs.St.with.Reads as with-reads
-use Rattle.emit.proofs.wide.Reads as wide-reads
 
 -- src/steps.rt:91:9
 wide-requires : tie.Need-wide-requires

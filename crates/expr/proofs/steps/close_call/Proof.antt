@@ -1,16 +1,9 @@
+-- `close_call` meets its contract.
 use Rattle.expr.proofs.Chain.{closes-call}
-use mathlib.Core.Path.{_≡_, refl, sym, ap, _∙_}
+use mathlib.Core.Path.{_∙_}
 use borrow.Author.Needs.{needs}
 use Rattle.expr.proofs.steps.close_call.Statement.{statement}
 use Rattle.expr.proofs.steps.close_call.Tie as tie
-use Rattle.expr.proofs.steps.close_call.Reads as reads
-use Rattle.expr.proofs.steps.close_call.Lts as lts
-use Rattle.emit.proofs.St.with.Reads as with-reads
-use Rattle.emit.proofs.emit_call.Reads as emit-call-reads
-use Rattle.emit.proofs.emit_new.Reads as emit-new-reads
-use Rattle.expr.proofs.steps.less_one.Reads as less-one-reads
-use Rattle.expr.proofs.steps.pop_down.Reads as pop-down-reads
-use Rattle.expr.proofs.steps.push_all.Reads as push-all-reads
 
 -- src/steps.rt:221:9
 push-all-requires : tie.Need-push-all-requires

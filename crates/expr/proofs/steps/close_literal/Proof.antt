@@ -1,16 +1,9 @@
+-- `close_literal` meets its contract.
 use Rattle.expr.proofs.Chain.{closes-literal}
-use mathlib.Core.Path.{_≡_, refl, sym, ap, _∙_}
+use mathlib.Core.Path.{refl, _∙_}
 use borrow.Author.Needs.{needs}
 use Rattle.expr.proofs.steps.close_literal.Statement.{statement}
 use Rattle.expr.proofs.steps.close_literal.Tie as tie
-use Rattle.expr.proofs.steps.close_literal.Reads as reads
-use Rattle.expr.proofs.steps.close_literal.Lts as lts
-use Rattle.emit.proofs.St.alloc_reg.Reads as alloc-reg-reads
-use Rattle.emit.proofs.St.with.Reads as with-reads
-use Rattle.emit.proofs.emit.Reads as emit-reads
-use Rattle.emit.proofs.emit_new.Reads as emit-new-reads
-use Rattle.emit.proofs.heap.Reads as heap-reads
-use Rattle.expr.proofs.steps.store_all.Reads as store-all-reads
 
 -- src/steps.rt:196:9
 store-all-requires : tie.Need-store-all-requires

@@ -1,14 +1,8 @@
+-- `combine` meets its contract.
 use Rattle.expr.proofs.Chain.{combines}
-use mathlib.Core.Path.{_≡_, refl, sym, ap, _∙_}
 use borrow.Author.Needs.{needs}
 use Rattle.expr.proofs.steps.combine.Statement.{statement}
 use Rattle.expr.proofs.steps.combine.Tie as tie
-use Rattle.expr.proofs.steps.combine.Reads as reads
-use Rattle.expr.proofs.steps.combine.Lts as lts
-use Rattle.emit.proofs.St.with.Reads as with-reads
-use Rattle.emit.proofs.emit.Reads as emit-reads
-use Rattle.expr.proofs.steps.choose_reg.Reads as choose-reg-reads
-use Rattle.expr.proofs.steps.free_above.Reads as free-above-reads
 
 -- src/steps.rt:124:9
 choose-reg-requires : tie.Need-choose-reg-requires

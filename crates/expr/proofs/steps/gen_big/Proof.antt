@@ -1,14 +1,8 @@
+-- `gen_big` meets its contract.
 use Rattle.expr.proofs.Chain.{big-number}
-use mathlib.Core.Path.{_≡_, refl, sym, ap, _∙_}
 use borrow.Author.Needs.{needs}
 use Rattle.expr.proofs.steps.gen_big.Statement.{statement}
 use Rattle.expr.proofs.steps.gen_big.Tie as tie
-use Rattle.expr.proofs.steps.gen_big.Reads as reads
-use Rattle.expr.proofs.steps.gen_big.Lts as lts
-use Rattle.emit.proofs.St.alloc_reg.Reads as alloc-reg-reads
-use Rattle.emit.proofs.St.with.Reads as with-reads
-use Rattle.emit.proofs.emit.Reads as emit-reads
-use Rattle.expr.proofs.steps.gen_chunks.Reads as gen-chunks-reads
 
 -- src/steps.rt:284:9
 alloc-reg-requires : tie.Need-alloc-reg-requires

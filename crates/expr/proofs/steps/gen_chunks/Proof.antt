@@ -1,13 +1,9 @@
+-- `gen_chunks` meets its contract.
 use Rattle.expr.proofs.Chain.{chunks-low, chunks-high}
 use native.Mathlib.Omega.{arith}
-use mathlib.Core.Path.{_≡_, refl, sym, ap, _∙_}
 use borrow.Author.Needs.{needs}
 use Rattle.expr.proofs.steps.gen_chunks.Statement.{statement}
 use Rattle.expr.proofs.steps.gen_chunks.Tie as tie
-use Rattle.expr.proofs.steps.gen_chunks.Reads as reads
-use Rattle.expr.proofs.steps.gen_chunks.Lts as lts
-use Rattle.emit.proofs.emit.Reads as emit-reads
-use Rattle.expr.proofs.steps.shift_in.Reads as shift-in-reads
 
 -- src/steps.rt:271:13
 emit-requires : tie.Need-emit-requires

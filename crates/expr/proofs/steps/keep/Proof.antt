@@ -1,11 +1,9 @@
+-- `keep` meets its contract.
 use native.Mathlib.Omega.{arith}
-use mathlib.Core.Path.{_≡_, refl, sym, ap, _∙_}
+use mathlib.Core.Path.{refl}
 use borrow.Author.Needs.{needs}
 use Rattle.expr.proofs.steps.keep.Statement.{statement}
 use Rattle.expr.proofs.steps.keep.Tie as tie
-use Rattle.expr.proofs.steps.keep.Reads as reads
-use Rattle.expr.proofs.steps.keep.Lts as lts
-use Rattle.emit.proofs.wide.Reads as wide-reads
 
 -- src/steps.rt:42:19
 wide-requires : tie.Need-wide-requires

@@ -1,11 +1,9 @@
+-- `opcode` meets its contract.
 use Rattle.expr.proofs.Values.{op-other}
-use native.Mathlib.Omega.{arith}
 use Rattle.rules.specs.Read.{binOpOf}
 use borrow.Author.Needs.{needs}
 use Rattle.expr.proofs.steps.opcode.Statement.{statement}
 use Rattle.expr.proofs.steps.opcode.Tie as tie
-use Rattle.expr.proofs.steps.opcode.Reads as reads
-use Rattle.expr.proofs.steps.opcode.Lts as lts
 
 -- src/steps.rt:69:1
 returns : tie.Need-returns

@@ -1,11 +1,8 @@
+-- `read_mapping` meets its contract.
 use Rattle.expr.proofs.Chain.{reads-mapping}
-use mathlib.Core.Path.{_≡_, refl, sym, ap, _∙_}
 use borrow.Author.Needs.{needs}
 use Rattle.expr.proofs.steps.read_mapping.Statement.{statement}
 use Rattle.expr.proofs.steps.read_mapping.Tie as tie
-use Rattle.expr.proofs.steps.read_mapping.Reads as reads
-use Rattle.expr.proofs.steps.read_mapping.Lts as lts
-use Rattle.emit.proofs.emit_new.Reads as emit-new-reads
 
 -- src/steps.rt:133:9
 emit-new-requires : tie.Need-emit-new-requires

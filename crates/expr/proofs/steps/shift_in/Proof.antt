@@ -1,11 +1,8 @@
+-- `shift_in` meets its contract.
 use Rattle.expr.proofs.Chain.{shifts-none, shifts-some}
-use mathlib.Core.Path.{_≡_, refl, sym, ap, _∙_}
 use borrow.Author.Needs.{needs}
 use Rattle.expr.proofs.steps.shift_in.Statement.{statement}
 use Rattle.expr.proofs.steps.shift_in.Tie as tie
-use Rattle.expr.proofs.steps.shift_in.Reads as reads
-use Rattle.expr.proofs.steps.shift_in.Lts as lts
-use Rattle.emit.proofs.emit.Reads as emit-reads
 
 -- src/steps.rt:254:9
 emit-requires : tie.Need-emit-requires

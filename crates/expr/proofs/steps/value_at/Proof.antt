@@ -1,11 +1,8 @@
+-- `value_at` meets its contract.
 use Rattle.expr.proofs.Values.{arg-at, arg-past}
-use mathlib.Core.Path.{_≡_, refl, sym, ap, _∙_}
 use borrow.Author.Needs.{needs}
 use Rattle.expr.proofs.steps.value_at.Statement.{statement}
 use Rattle.expr.proofs.steps.value_at.Tie as tie
-use Rattle.expr.proofs.steps.value_at.Reads as reads
-use Rattle.expr.proofs.steps.value_at.Lts as lts
-use Rattle.expr.proofs.steps.reg_at.Reads as reg-at-reads
 
 -- src/steps.rt:60:13
 reg-at-requires : tie.Need-reg-at-requires
