@@ -1,0 +1,46 @@
+-- `replay::hashed_word` ends, and stays in bounds.
+-- Assumes nothing.
+use Prim.Native.Nat.{_-_, _≤_, _<_}
+use native.Mathlib.Omega.{arith}
+use lib.ListN.{length}
+use borrow.Author.Needs.{needs}
+use Rattle.replay.proofs.hashed_word.Statement.{statement}
+use Rattle.replay.proofs.hashed_word.Tie as tie
+use Rattle.replay.proofs.hashed_word.Reads as reads
+use Rattle.replay.proofs.hashed_word.Lts as lts
+use Rattle.replay.proofs.times.Reads as times-reads
+
+abbrev Inv-loop : tie.InvT-loop
+Inv-loop h w x₀ rest₀ i₀ x rest i = i ≤ 8
+
+abbrev μ-loop : tie.MeasureT-loop
+μ-loop h w x₀ rest₀ i₀ x rest i = 8 - i
+
+-- src/main.rt:55:5
+loop-holds : tie.Need-loop-holds Inv-loop μ-loop
+loop-holds c = search needs
+
+-- src/main.rt:56:9
+times-requires : tie.Need-times-requires Inv-loop μ-loop
+times-requires c κs = search needs
+
+-- src/main.rt:58:9
+add-i : tie.Need-add-i Inv-loop μ-loop
+add-i c = search needs
+
+-- src/main.rt:55:5
+loop-less : tie.Need-loop-less Inv-loop μ-loop
+loop-less c = search needs
+
+-- src/main.rt:55:5
+loop-again : tie.Need-loop-again Inv-loop μ-loop
+loop-again c = search needs
+
+-- src/main.rt:51:1
+returns : tie.Need-returns Inv-loop μ-loop
+returns c = search needs
+
+pub hashed-word-spec : {M : Type 1} → statement M
+hashed-word-spec =
+    tie.close
+    (tie.spec Inv-loop μ-loop loop-holds times-requires add-i loop-less loop-again returns)

@@ -1,0 +1,188 @@
+// The stored answers of the Rust (docs/STORED.md) on standard input, held against build and analyse: how many there are and how many differ.
+ghost use Prim.Native.Nat.{_≤_, _<_};
+use libc::STDIN_FILENO;
+use libc::STDOUT_FILENO;
+use rules::Answer;
+
+// What is stored of a case: the image's length, the rooms, and the answers.
+struct Case {
+    size: u64,
+    room: u64,
+    table: u64,
+    refusal: u64,
+    place: u64,
+    count: u64,
+    words: u64,
+    entries: u64,
+    analysis: u64,
+    analysed: u64,
+}
+
+fn le64(s: &[u8], i: usize) -> u64
+    requires { ⌜ i ≤ 64 ⌝ }
+{
+    let low = records::word32(s, i);
+    let high = records::word32(s, i + 4);
+    low + 4294967296 * high
+}
+
+fn case_in(s: &[u8]) -> Case {
+    Case {
+        size: records::word32(s, 0),
+        room: records::word32(s, 4),
+        table: records::word32(s, 8),
+        refusal: records::word32(s, 12),
+        place: records::word32(s, 16),
+        count: records::word32(s, 20),
+        words: le64(s, 24),
+        entries: le64(s, 32),
+        analysis: records::word32(s, 40),
+        analysed: records::word32(s, 44),
+    }
+}
+
+// FNV-1a: times 0x100000001B3, modulo 2^64.
+fn times(x: u64) -> u64 {
+    let high = x / 4294967296;
+    let low = x % 4294967296;
+    let t = low * 435;
+    (high * 435 + t / 4294967296 + low % 16777216 * 256) % 4294967296 * 4294967296 + t % 4294967296
+}
+
+fn hashed_word(h: u64, w: u64) -> u64 {
+    let mut x = h;
+    let mut rest = w;
+    let mut i: usize = 0;
+    while i < 8 {
+        x = times(x ^ (rest % 256));
+        rest = rest / 256;
+        i += 1;
+    }
+    x
+}
+
+fn hashed(s: &[u64]) -> u64 {
+    let mut h = 0xcbf2_9ce4_8422_2325;
+    let mut i = 0;
+    while i < s.len() {
+        h = hashed_word(h, s[i]);
+        i += 1;
+    }
+    h
+}
+
+fn least(a: u64, b: usize) -> usize
+    ensures { λ r. ⌜ r ≤ b ⌝ }
+{
+    if a < (b as u64) { a as usize } else { b }
+}
+
+// Whether analyse answers as it is stored.
+fn analysed(case: Case, image: &[u8]) -> bool {
+    let a = sema::analyse(image);
+    if a.refusal != case.analysis {
+        return false;
+    }
+    a.place == case.analysed
+}
+
+// Whether build's numbers are the stored ones.
+fn numbered(case: Case, b: Answer) -> bool {
+    if b.refusal != case.refusal {
+        return false;
+    }
+    if b.place != case.place {
+        return false;
+    }
+    b.count == case.count
+}
+
+// Whether both slices hold what is stored, every entry included.
+fn filled(case: Case, code: &[u64], table: &[u64]) -> bool {
+    if hashed(code) != case.words {
+        return false;
+    }
+    hashed(table) == case.entries
+}
+
+fn built(case: Case, image: &[u8], code: &mut [u64], table: &mut [u64]) -> bool {
+    let b = compiler::build(image, code, table);
+    if numbered(case, b) {
+        filled(case, code, table)
+    } else {
+        false
+    }
+}
+
+// The same with the rooms that are stored.
+fn roomed(case: Case, image: &[u8], code: &mut [u64], table: &mut [u64]) -> bool {
+    let words = least(case.room, code.len());
+    let entries = least(case.table, table.len());
+    built(case, image, &mut code[..words], &mut table[..entries])
+}
+
+fn agrees(case: Case, image: &[u8]) -> bool {
+    let mut code = [0xa5a5_a5a5_a5a5_a5a5u64; 8192];
+    let mut table = [0x5a5a_5a5a_5a5a_5a5au64; 768];
+    if roomed(case, image, &mut code, &mut table) {
+        analysed(case, image)
+    } else {
+        false
+    }
+}
+
+// The image of a case is read, and its answers compared.
+fn read(case: Case, image: &mut [u8]) -> bool {
+    if io::read_full(STDIN_FILENO, image) != image.len() {
+        return false;
+    }
+    agrees(case, image)
+}
+
+// The case whose stored numbers are `head`, with room for its image.
+fn judged(head: &[u8], room: &mut [u8]) -> bool {
+    let case = case_in(head);
+    let n = least(case.size, room.len());
+    read(case, &mut room[..n])
+}
+
+// The next case: 1 where it differs.
+fn replayed() -> u64
+    ensures { λ r. ⌜ r ≤ 1 ⌝ }
+{
+    let mut head = [0u8; 48];
+    let mut image = [0u8; 65537];
+    if io::read_full(STDIN_FILENO, &mut head) != 48 {
+        return 1;
+    }
+    if judged(&head, &mut image) { 0 } else { 1 }
+}
+
+fn cases_in(head: &mut [u8]) -> u64
+    ensures { λ r. ⌜ r < 4294967296 ⌝ }
+{
+    io::read_full(STDIN_FILENO, head);
+    records::word32(head, 8)
+}
+
+fn differing(cases: u64) -> u64
+    requires { ⌜ cases < 4294967296 ⌝ }
+{
+    let mut differ = 0;
+    let mut done = 0;
+    while done < cases {
+        differ = differ + replayed();
+        done += 1;
+    }
+    differ
+}
+
+fn main() {
+    let mut head = [0u8; 32];
+    let cases = cases_in(&mut head);
+    let differ = differing(cases);
+    io::print_decimal(STDOUT_FILENO, cases);
+    io::write_all(STDOUT_FILENO, b" stored answers, ");
+    io::print_decimal(STDOUT_FILENO, differ);
+    io::write_all(STDOUT_FILENO, b" differ\n");
+}
