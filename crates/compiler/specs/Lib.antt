@@ -2,3 +2,4 @@ pub mod Made
 pub mod Stages
 pub mod Ends
 pub mod Unique
+pub mod Walks
