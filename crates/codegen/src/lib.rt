@@ -88,7 +88,7 @@ fn statements(img: &[u8], f: usize) -> usize
 }
 
 // 000: generate_function
-fn gen_function(
+pub fn gen_function(
     code: &mut [u64],
     scope: &mut [usize],
     img: &[u8],
@@ -203,7 +203,7 @@ fn newer(is: bool, k: usize, found: usize) -> usize
 }
 
 // 000: func_offsets.get("main"), the last function of that name
-fn main_index(img: &[u8], tables: &[usize]) -> usize
+pub fn main_index(img: &[u8], tables: &[usize]) -> usize
     requires { ⌜ Tabled (now img) (now tables) ⌝ }
     ensures { λ r. ⌜ r ≡ orFirst (last-index functionName 0 main (contractAt (now (img .entry)) .functions)) ⌝ }
 {
@@ -219,7 +219,7 @@ fn main_index(img: &[u8], tables: &[usize]) -> usize
 }
 
 // 000: generate, the first three words: the heap pointer, the call of main, Halt
-fn gen_opening(code: &mut [u64], rules: Rules, main: usize, st: St) -> St
+pub fn gen_opening(code: &mut [u64], rules: Rules, main: usize, st: St) -> St
     ensures { λ r. ⌜ Opens rules main st (now (code .entry)) r (now (code .exit)) ⌝ }
 {
     let heap = emit::emit(code, st, Opcode::Load, emit::heap(rules), 0, 0, 4096);

@@ -30,7 +30,7 @@ fn distance(firsts: &[usize], own: usize, function: usize) -> u64
 }
 
 // What stands at an index in the end: a word is kept, an open call becomes a Call to the first word of its function.
-fn linked_word(firsts: &[usize], own: usize, w: u64) -> u64
+pub fn linked_word(firsts: &[usize], own: usize, w: u64) -> u64
     ensures { λ r. ⌜ r ≡ linked (now (firsts .entry)) own w ⌝ }
 {
     if w < OPEN {
