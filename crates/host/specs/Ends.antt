@@ -4,9 +4,9 @@
 --     at-check, at-analysis, at-access, goes-on      what the stages before generation come to
 -- Assumes nothing.
 use mathlib.Core.Path.{_≡_, refl, sym, ap, subst, _∙_}
-use mathlib.Core.Option.{Option, none, some}
+use mathlib.Core.Option.{none, some}
 use mathlib.Core.List.{List, [], _∷_}
-use Prim.Native.Nat.{ℕ, suc, _+_, _*_, _/_, _^_, _≤_, _<_}
+use Prim.Native.Nat.{ℕ, _/_, _^_, _≤_, _<_}
 use native.Mathlib.Omega.{arith}
 use lib.Dec.{ltb}
 use lib.ListN.{length}
@@ -21,12 +21,12 @@ use Rattle.rules.specs.Analyse.{analyse}
 use Rattle.rules.specs.Ambiguous.{firstAmbiguous}
 use Rattle.rules.specs.Link.{Program, generate}
 use Rattle.rules.specs.Lent.{over, cleared, spread, wordBytes}
-use Rattle.rules.specs.Build.{rules, passed, clear, analysed, program, fits, programAnswer, wordsOf, at-exit, hosted, packed, hostOf, hostBytes}
+use Rattle.rules.specs.Build.{rules, passed, clear, analysed, program, fits, programAnswer, wordsOf, at-exit, hosted, hostBytes}
 use Rattle.lent.specs.Words.{bytesOf}
 use Rattle.bounds.specs.Told.{Plain, Told, told-bad}
 use Rattle.bounds.specs.Refusals.{program-told}
 use Rattle.bounds.specs.Programs.{program-bounded}
-use Rattle.host.specs.Near.{Near, near-ok, near-bad}
+use Rattle.host.specs.Near.{Near, near-bad}
 use Rattle.host.specs.Nearby.{program-near}
 
 -- A refusal of an image has a number, and no count.

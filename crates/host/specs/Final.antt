@@ -7,22 +7,21 @@ use mathlib.Core.Path.{_≡_, refl, sym, ap, ap₂, subst, _∙_}
 use mathlib.Core.Bool.{Bool, true, false}
 use mathlib.Core.Option.{Option, none, some}
 use mathlib.Core.List.{List, [], _∷_, _++_, map, map-append}
-use Prim.Native.Nat.{ℕ, zero, suc, _+_, _*_, _/_, _%_, _^_, _≤_, _<_}
+use Prim.Native.Nat.{ℕ, zero, suc, _+_, _*_, _/_, _^_, _≤_, _<_}
 use native.Mathlib.Nat.{zero-add, suc-add, add-suc, add-zero}
 use native.Mathlib.Omega.{arith}
 use lib.Dec.{leb}
 use lib.ListN.{length, getD, take, length-append, length-map}
-use lib.Seq.{take-all, take-length, getD-take}
+use lib.Seq.{take-all, getD-take}
 use borrow.Author.Tests.{leb-true, leb-false}
 use Rattle.isa.specs.declared.Encoded.the-variants as encoded
 use Rattle.rules.specs.declared.Answer.{Answer}
 use Rattle.rules.specs.Bytes.{pick, Name, eqName, inside, after}
-use Rattle.rules.specs.Check.{checkOf}
 use Rattle.rules.specs.Tables.{orElse, last, last-index}
 use Rattle.rules.specs.Tree.{Function, Contract}
 use Rattle.rules.specs.Read.{fourth, functionAt, contractAt}
 use Rattle.rules.specs.Refusal as closed
-use Rattle.rules.specs.Refusal.{Refusal, Res, ok, bad, answer, refused, numberOf, placeOf}
+use Rattle.rules.specs.Refusal.{Refusal, Res, ok, bad, answer, numberOf, placeOf}
 use Rattle.rules.specs.Analyse.{functionName}
 use Rattle.rules.specs.Builtins.{main}
 use Rattle.rules.specs.Machine as machine
@@ -30,10 +29,10 @@ use Rattle.rules.specs.Machine.{Word, Entry, At, bitsOf}
 use Rattle.rules.specs.Emit.{Rules, Open, word, calls}
 use Rattle.rules.specs.Generate.{function}
 use Rattle.rules.specs.Link.{Built, Program, functions, link, opening, with-main, generate}
-use Rattle.rules.specs.Lent.{over, spread, wordBytes}
+use Rattle.rules.specs.Lent.{over, wordBytes}
 use Rattle.rules.specs.Build.{rules, program, wordsOf}
 use Rattle.bounds.specs.Answers.{All, from-ok, all-ok, all-bind, all-next}
-use Rattle.bounds.specs.Held.{Each, Opt, last-index-low, each-map}
+use Rattle.bounds.specs.Held.{Each, Opt, last-index-low}
 use Rattle.bounds.specs.Numbers.{Encodable, encoded-cut}
 use Rattle.bounds.specs.Cuts.{places-few}
 use Rattle.bounds.specs.Programs.{Short, built, program-bounded}

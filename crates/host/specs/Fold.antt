@@ -6,12 +6,11 @@
 -- Assumes nothing.
 use mathlib.Core.Path.{_≡_, refl, sym, ap, subst, _∙_}
 use mathlib.Core.List.{List, [], _∷_, _++_, map, map-append}
-use Prim.Native.Nat.{ℕ, zero, suc, _+_, _*_, _^_, _≤_, _<_}
-use native.Mathlib.Nat.{not-suc-le-zero}
+use Prim.Native.Nat.{ℕ, suc, _+_, _*_, _≤_, _<_}
 use native.Mathlib.Numerals.{add-one}
 use native.Mathlib.Omega.{arith}
 use lib.ListN.{length, take, drop, getD, set, length-set, length-append, length-map, take-append-drop}
-use lib.Seq.{take-all, take-suc-set, drop-cons}
+use lib.Seq.{take-all, take-suc-set}
 use Rattle.rules.specs.declared.Answer.{Answer}
 use Rattle.rules.specs.Tree.{Function, Contract}
 use Rattle.rules.specs.Read.{functionAt, contractAt}
@@ -21,7 +20,7 @@ use Rattle.rules.specs.Machine.{Entry}
 use Rattle.rules.specs.Emit.{Rules, Open}
 use Rattle.rules.specs.Generate.{function}
 use Rattle.rules.specs.Link.{Built, functions}
-use Rattle.rules.specs.Lent.{over, spread, wordBytes}
+use Rattle.rules.specs.Lent.{spread}
 use Rattle.lent.specs.Over.{overAt, overAt-nil}
 use Rattle.lent.specs.Words.{bytesOf}
 use Rattle.emit.specs.Ran.{raw}

@@ -5,7 +5,6 @@
 -- Assumes nothing.
 use mathlib.Core.Bool.{Bool, true, false}
 use mathlib.Core.Option.{Option, none, some}
-use mathlib.Core.List.{List, [], _∷_}
 use Prim.Native.Nat.{ℕ, _≤_, _<_}
 use Rattle.rules.specs.Bytes.{pick}
 use Rattle.rules.specs.Refusal.{Refusal, Res, ok, bad, _>>=_, known, unless, numberOf, placeOf}

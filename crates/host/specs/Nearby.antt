@@ -14,11 +14,11 @@ use Rattle.rules.specs.declared.Seen.the-variants.{Sound, Fault}
 use Rattle.rules.specs.Bytes.{pick, Name, le32, kindAt, endAt, _or_}
 use Rattle.rules.specs.Grammar.{dueAt}
 use Rattle.rules.specs.Check.{unframed, headerOf, refusalOf, startOf, Child, andThen, childrenOf, recordBy, recordOf, wholeOf, checkOf}
-use Rattle.rules.specs.Tables.{orElse, last}
+use Rattle.rules.specs.Tables.{last}
 use Rattle.rules.specs.Tree.{Expr, Exprs, Inits, Stmt, Stmts, Field, Struct, Function, Contract}
 use Rattle.rules.specs.Read.{contractAt}
 use Rattle.rules.specs.Types.{Typ, Env}
-use Rattle.rules.specs.Refusal.{Refusal, Res, ok, bad, _>>=_, refused, numberOf, placeOf}
+use Rattle.rules.specs.Refusal.{Refusal, Res, refused, numberOf, placeOf}
 use Rattle.rules.specs.Builtins.{Builtin}
 use Rattle.rules.specs.Analyse as analysis
 use Rattle.rules.specs.Ambiguous.{isAmbiguous, inExpr, inExprs, inInits, inStmt, inStmts, inFunctions, firstAmbiguous}

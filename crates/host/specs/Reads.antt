@@ -1,15 +1,15 @@
 -- Every place in the tree of an image is in the image.
 -- Assumes nothing.
 use mathlib.Core.Bool.{Bool, true, false}
-use mathlib.Core.List.{List, [], _∷_, map}
-use Prim.Native.Nat.{ℕ, zero, suc, _+_, _≤_, min}
+use mathlib.Core.List.{List, map}
+use Prim.Native.Nat.{ℕ, zero, suc, _+_, _≤_}
 use native.Mathlib.Nat.{min-le-right}
 use native.Mathlib.Omega.{arith}
 use lib.Dec.{ltb}
 use lib.ListN.{length}
 use Rattle.rules.specs.Bytes.{kindAt, endAt, inside, after}
-use Rattle.rules.specs.Tree.{Expr, Exprs, Inits, Stmt, Stmts, Function}
-use Rattle.rules.specs.Read.{when, second, third, fourth, fifth, placesFrom, Kind, kInt, kIdent, kStorage, kMapping, kAccess, kLiteral, kBinary, kCall, kOther, kindOf, exprsFrom, initsFrom, exprAs, exprAt, StmtKind, sLet, sConstrain, sAssign, sStorage, sMapping, sIf, sWhile, sFor, sReturn, sEmit, sExpr, sOther, stmtKindOf, stmtsFrom, bodyAt, elseAt, stmtAs, stmtAt, functionAt, contractAt}
+use Rattle.rules.specs.Tree.{Expr, Stmt, Function}
+use Rattle.rules.specs.Read.{when, second, third, placesFrom, Kind, kInt, kIdent, kStorage, kMapping, kAccess, kLiteral, kBinary, kCall, kOther, kindOf, exprsFrom, initsFrom, exprAs, exprAt, StmtKind, sLet, sConstrain, sAssign, sStorage, sMapping, sIf, sWhile, sFor, sReturn, sEmit, sExpr, sOther, stmtKindOf, stmtsFrom, elseAt, stmtAs, stmtAt, functionAt, contractAt}
 use Rattle.bounds.specs.Held.{Each}
 use Rattle.host.specs.Near.{In, In-exprs, In-inits, In-stmt, In-stmts, In-function}
 

@@ -6,7 +6,7 @@
 -- Assumes nothing.
 use mathlib.Core.Path.{_≡_, refl, sym, ap, subst, _∙_}
 use mathlib.Core.Bool.{Bool, true, false}
-use mathlib.Core.List.{List, [], _∷_, _++_, map}
+use mathlib.Core.List.{List, _++_, map}
 use Prim.Native.Nat.{ℕ, _+_, _-_, _*_, _≤_, _<_, min}
 use native.Mathlib.Omega.{arith}
 use lib.Dec.{leb}
@@ -18,14 +18,14 @@ use Rattle.rules.specs.Read.{functionAt}
 use Rattle.rules.specs.Refusal.{Refusal, Res, ok, bad, numberOf, placeOf}
 use Rattle.rules.specs.Emit.{Rules, Open}
 use Rattle.rules.specs.Generate.{function}
-use Rattle.rules.specs.Lent.{over, spread, wordBytes}
+use Rattle.rules.specs.Lent.{spread, wordBytes}
 use Rattle.lent.specs.Over.{overAt, length-overAt, overAt-nil, overAt-append, take-over, spread-append, length-spread}
 use Rattle.lent.specs.Words.{eight, bytesOf}
 use Rattle.bounds.specs.Sizes.{vars-stmts}
 use Rattle.tables.specs.Listed.{Tabled}
 use Rattle.emit.specs.Steps.{gen-function}
 use Rattle.emit.specs.Window.{laid, laid-over}
-use Rattle.emit.specs.Ran.{raw, Tally, Good, Case, refused, Ran}
+use Rattle.emit.specs.Ran.{raw, Good, Case, refused, Ran}
 use Rattle.emit.specs.Agrees.{function-ok, function-bad}
 use Rattle.emit.specs.declared.St.{St}
 use Rattle.emit.specs.State.{tally}
@@ -42,7 +42,7 @@ given img t s f h size = record { tabled = h .tabled; small = h .small; names = 
 
 -- How many words a window has.
 abbrev pub wide : ℕ
-wide = 8192
+wide = 2048
 
 pub record Wrote (C : Contract) (m : Res (List Open)) (first : ℕ) (s : List ℕ) (r : St) (s' : List ℕ) : Type 0 where
   pub size : length s' ≡ length s

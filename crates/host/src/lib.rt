@@ -3,18 +3,12 @@
 // No array of the whole program: each function is generated into a window of words and copied out as bytes from its first word on; once
 // all are placed, the open calls are linked in the bytes.
 ghost use mathlib.Core.Path.{_≡_};
-ghost use mathlib.Core.Option.{none};
-ghost use mathlib.Core.List.{map};
 ghost use Prim.Native.Nat.{_+_, _-_, _*_, _≤_, _<_, min};
 ghost use lib.ListN.{length, take};
-ghost use Rattle.rules.specs.Bytes.{le32};
-ghost use Rattle.rules.specs.Check.{checkOf};
 ghost use Rattle.rules.specs.Tables.{last-index};
 ghost use Rattle.rules.specs.Read.{functionAt, contractAt};
-ghost use Rattle.rules.specs.Refusal.{answer, ok};
 ghost use Rattle.rules.specs.Builtins.{main};
-ghost use Rattle.rules.specs.Analyse.{functionName, analyse};
-ghost use Rattle.rules.specs.Ambiguous.{firstAmbiguous};
+ghost use Rattle.rules.specs.Analyse.{functionName};
 ghost use Rattle.rules.specs.Generate.{function};
 ghost use Rattle.rules.specs.Link.{generate};
 ghost use Rattle.rules.specs.Build.{rules, program, packed, hostOf, hostBytes};
@@ -37,8 +31,8 @@ use lookup::Checked;
 use rules::Answer;
 use rules::Seen;
 
-// Words in a window: 64 KiB of stack. A longer function is generated once for each window that it fills.
-const WINDOW: usize = 8192;
+// Words in a window: 16 KiB of the stack, so that the deepest image needs under 128 KiB. A longer function is generated once for each window.
+const WINDOW: usize = 2048;
 
 // 000: main function not found
 const NO_MAIN: u64 = 40;
@@ -111,9 +105,9 @@ fn sum(a: usize, b: usize) -> usize
 }
 
 // What the window shows of a function's n words from number base on goes to its place in the bytes.
-fn copy_out(out: &mut [u8], window: &[u64; 8192], first: usize, base: usize, n: usize)
+fn copy_out(out: &mut [u8], window: &[u64; 2048], first: usize, base: usize, n: usize)
     requires { ⌜ (base ≤ n) × (8 * (first + n) ≤ length (now out)) ⌝ }
-    ensures { λ _. ⌜ now (out .exit) ≡ overAt (8 * (first + base)) (bytesOf (take (min (n - base) 8192) (now (window .entry)))) (now (out .entry)) ⌝ }
+    ensures { λ _. ⌜ now (out .exit) ≡ overAt (8 * (first + base)) (bytesOf (take (min (n - base) 2048) (now (window .entry)))) (now (out .entry)) ⌝ }
 {
     let shown = least(n - base, WINDOW);
     lent::copy_words(window, shown, out, first + base);
@@ -122,7 +116,7 @@ fn copy_out(out: &mut [u8], window: &[u64; 8192], first: usize, base: usize, n: 
 // 000: generate_function, of the function at f, whose first word has number `first`. Where the room ends before it does, only its words' count matters.
 fn write_function(
     out: &mut [u8],
-    window: &mut [u64; 8192],
+    window: &mut [u64; 2048],
     scope: &mut [usize; 1537],
     img: &[u8],
     tables: &[usize],
@@ -158,7 +152,7 @@ fn write_function(
 // 000: generate, the loop over the functions, and where each starts. The first refusal ends it.
 fn write_functions(
     out: &mut [u8],
-    window: &mut [u64; 8192],
+    window: &mut [u64; 2048],
     scope: &mut [usize; 1537],
     firsts: &mut [usize; 256],
     img: &[u8],
@@ -194,7 +188,7 @@ fn write_functions(
 // 000: generate, the first three words
 fn write_opening(
     out: &mut [u8],
-    window: &mut [u64; 8192],
+    window: &mut [u64; 2048],
     img: &[u8],
     tables: &[usize],
     start: usize,
@@ -232,7 +226,7 @@ fn write_program(out: &mut [u8], img: &[u8], tables: &[usize], start: usize) -> 
     requires { ⌜ Ready (now img) (now tables) × ((start ≡ orFirst (last-index functionName 0 main (contractAt (now img) .functions))) × (start ≡ 256 → ⊥)) ⌝ }
     ensures { λ r. ⌜ Hosted (now (img .entry)) (now (out .entry)) r (now (out .exit)) ⌝ }
 {
-    let mut window = [0u64; 8192];
+    let mut window = [0u64; 2048];
     let mut scope = [0usize; 1537];
     let mut firsts = [0usize; 256];
     write_opening(out, &mut window, img, tables, start);
