@@ -1,4 +1,4 @@
-//! The least stack, in KiB, on which the deepest trees of each kind are built.
+//! The least stack, in KiB, on which the deepest trees of each kind are built. (`many` has more parameters than there are registers: the answer is 41.)
 use haspnettle::ast::{BinOp, Contract, Expr, Function, Param, Stmt, StorageField, Struct};
 use haspnettle::{build_into, image, Unwritable};
 use std::{env, process::Command, thread};
@@ -10,11 +10,14 @@ fn contract(body: Vec<Stmt>) -> Contract {
     Contract {
         name: "c".into(),
         storage: vec![one("m", "u64")],
-        structs: vec![Struct { name: "S".into(), fields: vec![one("x", "S")] }],
+        structs: vec![
+            Struct { name: "S".into(), fields: vec![one("x", "S")] },
+            Struct { name: "W".into(), fields: (0..64).map(|i| one(&format!("f{i}"), if i < 63 { "u64" } else { "W" })).collect() },
+        ],
         functions: vec![
-            f("main", vec![Param { name: "p".into(), ty: "S".into() }], body),
+            f("main", vec![Param { name: "p".into(), ty: "S".into() }, Param { name: "w".into(), ty: "W".into() }, param("q")], body),
             f("g", vec![param("a")], vec![]),
-            f("h", vec![param("a"), param("b")], vec![]),
+            f("many", (0..64).map(|i| param(&format!("p{i}"))).collect(), vec![]),
         ],
     }
 }
@@ -47,15 +50,19 @@ fn deepest_body(wrap: impl Fn(Vec<Stmt>) -> Stmt) -> Contract {
 
 fn kinds() -> Vec<(&'static str, Contract)> {
     let call = |f: &str, a: Vec<Expr>| Expr::Call(f.into(), a);
+    let q = || Expr::Ident("q".into());
+    let inits = |e: Expr| (0..63).map(|i| (format!("f{i}"), q())).chain([("f63".into(), e)]).collect();
     vec![
         ("empty", contract(vec![])),
         ("call", deepest(Expr::Int(1), |e| call("g", vec![e]))),
+        ("wide call", deepest(q(), |e| call("many", [vec![q(); 63], vec![e]].concat()))),
         ("poseidon", deepest(Expr::Int(1), |e| call("poseidon", vec![e, Expr::Int(1)]))),
         ("merkle", deepest(Expr::Int(1), |e| call("verify_merkle_proof", vec![e, Expr::Int(1), Expr::Int(1)]))),
         ("mapping", deepest(Expr::Int(1), |e| Expr::MappingRead("m".into(), Box::new(e)))),
         ("binary left", deepest(Expr::Int(1), |e| Expr::Binary(Box::new(e), BinOp::Add, Box::new(Expr::Int(1))))),
         ("binary right", deepest(Expr::Int(1), |e| Expr::Binary(Box::new(Expr::Int(1)), BinOp::Add, Box::new(e)))),
         ("literal", deepest(Expr::Ident("p".into()), |e| Expr::StructLiteral("S".into(), vec![("x".into(), e)]))),
+        ("wide literal", deepest(Expr::Ident("w".into()), |e| Expr::StructLiteral("W".into(), inits(e)))),
         ("access", deepest(Expr::Ident("p".into()), |e| Expr::FieldAccess(Box::new(e), "x".into()))),
         ("if", deepest_body(|b| Stmt::If(Expr::Int(1), b, None))),
         ("else", deepest_body(|b| Stmt::If(Expr::Int(1), vec![], Some(b)))),
@@ -76,7 +83,7 @@ fn main() {
     }
     for (kind, _) in kinds() {
         let fits = |kib: u32| Command::new(env::current_exe().unwrap()).args([kind, &kib.to_string()]).output().unwrap();
-        let (mut low, mut high) = (16, 512);
+        let (mut low, mut high) = (16, 1024);
         while low < high {
             let middle = (low + high) / 2;
             match fits(middle).status.success() {

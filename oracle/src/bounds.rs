@@ -143,6 +143,25 @@ fn nested_ifs(depth: usize) -> Contract {
     main_of(body)
 }
 
+// Calls one in the other, each behind 63 arguments: as wide as deep.
+fn wide_calls() -> Contract {
+    let x = || (0..63).map(|_| id("x")).collect::<Vec<_>>();
+    let e = (0..28).fold(id("x"), |e, _| call("f", [x(), vec![e]].concat()));
+    let mut c = contract(vec![], vec![], vec![function("main", vec![("x", "u64")], None, vec![does(e)])]);
+    c.functions.push(function("f", vec![], Some("u64"), vec![]));
+    c.functions[1].params = params(64);
+    c
+}
+
+// Literals one in the other, each behind 63 values.
+fn wide_literals() -> Contract {
+    let all = fields(64).iter().map(|(f, t)| field(f, if f == "n63" { "W" } else { t })).collect();
+    let inits = |e: Expr| (0..63).map(|i| (named(i), id("x"))).chain([(named(63), e)]).collect();
+    let e = (0..19).fold(id("w"), |e, _| Expr::StructLiteral("W".into(), inits(e)));
+    let main = function("main", vec![("x", "u64"), ("w", "W")], None, vec![does(e)]);
+    contract(vec![], vec![Struct { name: "W".into(), fields: all }], vec![main])
+}
+
 fn pairs(out: &mut Vec<Edge>, what: [&'static str; 2], most: usize, of: fn(usize) -> Contract) {
     out.push((what[0], encode(&of(most))));
     out.push((what[1], encode(&of(most + 1))));
@@ -233,10 +252,16 @@ pub fn all() -> Vec<Edge> {
     out
 }
 
-/// Images at the bound of bytes.
+/// Images at the bound of bytes, and of stack.
 pub fn large() -> Vec<Edge> {
     let over = encode(&sized(65_537));
     let mut cut = over.clone();
     cut.pop();
-    vec![("65,536 bytes", encode(&sized(65_536))), ("65,537 bytes", over), ("65,537 bytes cut by one", cut)]
+    vec![
+        ("65,536 bytes", encode(&sized(65_536))),
+        ("65,537 bytes", over),
+        ("65,537 bytes cut by one", cut),
+        ("calls of 64 arguments, 28 deep", encode(&wide_calls())),
+        ("literals of 64 values, 19 deep", encode(&wide_literals())),
+    ]
 }

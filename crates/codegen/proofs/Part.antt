@@ -14,9 +14,8 @@ use Rattle.rules.specs.Emit.{Open}
 use Rattle.rules.specs.Lent.{over}
 use Rattle.emit.specs.Steps.{Out}
 use Rattle.emit.specs.Window.{laid, laid-plain}
-use Rattle.emit.specs.Ran.{Tally, Case, went, refused, Ran}
+use Rattle.emit.specs.Ran.{Tally, Sums, Case, went, refused, Ran}
 use Rattle.codegen.specs.Parts.{laid-part}
-use Rattle.codegen.specs.Does.{Sums}
 
 -- The part that goes to the slice's end, and the slice when it has come back.
 mid-tail : (a : ℕ) (xs : List ℕ) → midOf a (length xs - a) xs ≡ drop a xs

@@ -75,12 +75,6 @@ finish R C p n = do
 pub record Ends (R : Rules) (p : ℕ) (st : St) (c : List ℕ) (r : St) (c' : List ℕ) : Type 0 where
   pub ran : (C : Contract) → Ran (raw C) (tally st) c (tally r) c' tt (finish (rulesOf R) C p (st .next))
 
--- Counts added, as far as a count goes.
-pub record Sums (a b r : ℕ) : Type 0 where
-  pub grows : a ≤ r
-  pub low : a + b < 4294967295 → r < 4294967295
-  pub exact : r < 4294967295 → r ≡ a + b
-
 -- In F stand the first words of k functions.
 abbrev pub Firsts : ℕ → List ℕ → Built → Type 0
 Firsts k F b = take k F ≡ map (λ (e : Entry). e .first) (b .table)

@@ -1,7 +1,7 @@
 // Functions and the program (000: generate_function, generate): each function's words are written into the part of the code slice that
 // starts at its first word; once all are placed, the open calls are linked.
 ghost use mathlib.Core.Path.{_≡_};
-ghost use Prim.Native.Nat.{_+_, _≤_, min};
+ghost use Prim.Native.Nat.{_+_, _≤_};
 ghost use lib.ListN.{length, getD, take};
 ghost use Rattle.rules.specs.Bytes.{pick, eqName};
 ghost use Rattle.rules.specs.Tables.{last-index};
@@ -15,7 +15,7 @@ ghost use Rattle.emit.specs.Ran.{orFirst, raw, Ran};
 ghost use Rattle.emit.specs.State.{rulesOf, tally};
 ghost use Rattle.link.specs.Linked.{linkedFrom};
 ghost use Rattle.tables.specs.Listed.{Tabled, functionsIn};
-ghost use Rattle.codegen.specs.Does.{Given, Checked, Bound, Pops, Ends, Sums, Runs, Opens, Generated};
+ghost use Rattle.codegen.specs.Does.{Given, Checked, Bound, Pops, Ends, Runs, Opens, Generated};
 use emit::Rules;
 use emit::St;
 use isa::Opcode;
@@ -112,25 +112,6 @@ pub fn gen_function(
     gen_end(code, rules, f, d)
 }
 
-fn least(a: usize, b: usize) -> usize
-    ensures { λ r. ⌜ r ≡ min a b ⌝ }
-{
-    if a < b { a } else { b }
-}
-
-// A count goes to emit::MOST.
-fn sum(a: usize, b: usize) -> usize
-    ensures { λ r. ⌜ Sums a b r ⌝ }
-{
-    if emit::MOST <= a {
-        return a;
-    }
-    if emit::MOST - a <= b {
-        return emit::MOST;
-    }
-    a + b
-}
-
 // 01: each function's words are written into the part of the code slice that starts at its first word
 fn gen_part(
     code: &mut [u64],
@@ -144,7 +125,7 @@ fn gen_part(
     requires { ⌜ Given (now img) (now tables) (now scope) f × (st .base ≡ 0) ⌝ }
     ensures { λ r. ⌜ Ran (raw (contractAt (now (img .entry)))) (tally st) (now (code .entry)) (tally r) (now (code .exit)) tt (gen-function (rulesOf rules) (contractAt (now (img .entry))) (functionAt (now (img .entry)) f)) ⌝ }
 {
-    let first = least(st.n, code.len());
+    let first = emit::least(st.n, code.len());
     let own = St {
         next: 1,
         reg: 0,
@@ -159,7 +140,7 @@ fn gen_part(
         reg: 0,
         err: r.err,
         place: r.place,
-        n: sum(st.n, r.n),
+        n: emit::sum(st.n, r.n),
         base: 0,
     }
 }
@@ -177,10 +158,10 @@ fn gen_functions(
     requires { ⌜ Checked (now img) (now tables) × ((1537 ≤ length (now scope)) × ((256 ≤ length (now firsts)) × (st .base ≡ 0))) ⌝ }
     ensures { λ r. ⌜ Runs rules (now (img .entry)) (length (functionsIn (now (img .entry)))) st (now (code .entry)) r (now (code .exit)) (now (firsts .exit)) ⌝ }
 {
-    let count = tables::function_count(tables);
+    let functions = tables::function_count(tables);
     let mut k = 0;
     let mut s = st;
-    while k < count {
+    while k < functions {
         firsts[k] = s.n;
         let f = tables::function_place(tables, k);
         s = gen_part(code, scope, img, tables, rules, f, s);

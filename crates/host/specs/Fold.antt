@@ -23,7 +23,7 @@ use Rattle.rules.specs.Link.{Built, functions}
 use Rattle.rules.specs.Lent.{spread}
 use Rattle.lent.specs.Over.{overAt, overAt-nil}
 use Rattle.lent.specs.Words.{bytesOf}
-use Rattle.emit.specs.Ran.{raw}
+use Rattle.emit.specs.Ran.{raw, Sums}
 use Rattle.emit.specs.declared.St.{St}
 use Rattle.tables.specs.Listed.{functionsIn}
 use Rattle.bounds.specs.Held.{each-get}
@@ -47,11 +47,6 @@ fit img t f k h low at = record {
 -- All functions of an image.
 abbrev pub all : Rules → List ℕ → Res Built
 all R img = functions R (contractAt img) 3 (contractAt img .functions)
-
--- What is known of a count: it is exact below 2^32 - 1.
-pub record Counts (a b r : ℕ) : Type 0 where
-  pub few : r ≤ 4294967295
-  pub exact : a + b < 4294967295 → r ≡ a + b
 
 -- The functions of b stand in the bytes, and their first words in F.
 pub record Stand (C : Contract) (b : Built) (s s' : List ℕ) (n k : ℕ) (F : List ℕ) : Type 0 where
@@ -137,7 +132,7 @@ module _ (R : Rules) (img : List ℕ) where
   }
 
   module _ {s₀ s F : List ℕ} {k n : ℕ} (p : Placing R img s₀ s F k n) (h : k < length (functionsIn img)) where
-    pub one-placed : (s' F' : List ℕ) (r : St) (n' f : ℕ) → k < 256 → F' ≡ set F k n → f ≡ getD (functionsIn img) k 0 → Wrote C (function R C (functionAt img f)) n s r s' → r .err ≡ 0 → Counts n (r .n) n' → Placing R img s₀ s' F' (k + 1) n'
+    pub one-placed : (s' F' : List ℕ) (r : St) (n' f : ℕ) → k < 256 → F' ≡ set F k n → f ≡ getD (functionsIn img) k 0 → Wrote C (function R C (functionAt img f)) n s r s' → r .err ≡ 0 → Sums n (r .n) n' → Placing R img s₀ s' F' (k + 1) n'
     one-placed s' F' r n' f room set-is at w fine counts = go (function R C (functionNo img k)) refl (subst (λ (x : ℕ). Wrote C (function R C (functionAt img x)) n s r s') at w)
       where
         go : (m : Res (List Open)) → function R C (functionNo img k) ≡ m → Wrote C m n s r s' → Placing R img s₀ s' F' (k + 1) n'
@@ -146,14 +141,14 @@ module _ (R : Rules) (img : List ℕ) where
           within = omega (arith, h);
           size = v .size ∙ p .size;
           long = ap length set-is ∙ length-set F k n ∙ p .long;
-          few = counts .few;
+          few = counts .few (p .few);
           here = record { code = p .here .code ++ l; table = p .here .table ++ (entry (functionNo img k) (3 + length (p .here .code)) l ∷ []) };
           is = one-more k (p .here) l h (p .is) e;
           stand = λ u.
               let both : length (p .here .code ++ l) ≡ length (p .here .code) + length l = length-append (p .here .code) l in
               let t = p .stand (omega (arith, u, both)) in
               let g = v .good l refl .1 (omega (arith, u, both)) in
-              let c : n' ≡ n + length l = counts .exact (omega (arith, u, both, g .0, t .count)) ∙ ap (λ (j : ℕ). n + j) (g .0) in
+              let c : n' ≡ n + length l = counts .exact (counts .low (omega (arith, u, both, g .0, t .count))) ∙ ap (λ (j : ℕ). n + j) (g .0) in
               record {
                 count = omega (arith, c, both, t .count);
                 bytes = λ z.

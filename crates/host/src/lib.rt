@@ -21,7 +21,7 @@ ghost use Rattle.emit.specs.State.{rulesOf};
 ghost use Rattle.codegen.specs.Does as codegen;
 ghost use Rattle.host.specs.Words.{wordAt, firstWords};
 ghost use Rattle.host.specs.Windows.{Fit, Wrote};
-ghost use Rattle.host.specs.Fold.{Counts, Written};
+ghost use Rattle.host.specs.Fold.{Written};
 ghost use Rattle.host.specs.Final.{Opened, Finishes, Ready};
 ghost use Rattle.host.specs.Ends.{Hosted, Small, Analysed, Passes};
 use ambiguous::Spot;
@@ -86,30 +86,12 @@ fn fresh(base: usize) -> St
     }
 }
 
-fn least(a: usize, b: usize) -> usize
-    ensures { λ r. ⌜ r ≡ min a b ⌝ }
-{
-    if a < b { a } else { b }
-}
-
-// A count goes to emit::MOST.
-fn sum(a: usize, b: usize) -> usize
-    requires { ⌜ a ≤ 4294967295 ⌝ }
-    ensures { λ r. ⌜ Counts a b r ⌝ }
-{
-    if b <= emit::MOST - a {
-        a + b
-    } else {
-        emit::MOST
-    }
-}
-
 // What the window shows of a function's n words from number base on goes to its place in the bytes.
 fn copy_out(out: &mut [u8], window: &[u64; 2048], first: usize, base: usize, n: usize)
     requires { ⌜ (base ≤ n) × (8 * (first + n) ≤ length (now out)) ⌝ }
     ensures { λ _. ⌜ now (out .exit) ≡ overAt (8 * (first + base)) (bytesOf (take (min (n - base) 2048) (now (window .entry)))) (now (out .entry)) ⌝ }
 {
-    let shown = least(n - base, WINDOW);
+    let shown = emit::least(n - base, WINDOW);
     lent::copy_words(window, shown, out, first + base);
 }
 
@@ -175,7 +157,7 @@ fn write_functions(
                 count: 0,
             };
         }
-        n = sum(n, r.n);
+        n = emit::sum(n, r.n);
         k += 1;
     }
     Answer {

@@ -1,6 +1,6 @@
 // Open calls, once every function is placed (000: generate, the loop over unpatched_calls).
 ghost use mathlib.Core.Path.{_≡_};
-ghost use Prim.Native.Nat.{_%_, min};
+ghost use Prim.Native.Nat.{_%_};
 ghost use lib.ListN.{take};
 ghost use Rattle.rules.specs.Lent.{over};
 ghost use Rattle.link.specs.Linked.{distanceTo, linked, linkedFrom};
@@ -40,17 +40,11 @@ pub fn linked_word(firsts: &[usize], own: usize, w: u64) -> u64
     emit::word(Opcode::Call, 0, 0, 0, distance(firsts, own, function))
 }
 
-fn least(a: usize, b: usize) -> usize
-    ensures { λ r. ⌜ r ≡ min a b ⌝ }
-{
-    if a < b { a } else { b }
-}
-
 // The first n words of the slice, as far as it goes.
 pub fn link(code: &mut [u64], firsts: &[usize], n: usize)
     ensures { λ _. ⌜ now (code .exit) ≡ over (linkedFrom (now (firsts .entry)) 0 (take n (now (code .entry)))) (now (code .entry)) ⌝ }
 {
-    let end = least(n, code.len());
+    let end = emit::least(n, code.len());
     let mut i = 0;
     while i < end {
         let w = code[i];

@@ -12,7 +12,7 @@ use Rattle.host.proofs.copy_out.Statement.{statement}
 use Rattle.host.proofs.copy_out.Tie as tie
 use Rattle.host.proofs.copy_out.Reads as reads
 use Rattle.host.proofs.copy_out.Lts as lts
-use Rattle.host.proofs.least.Reads as least-reads
+use Rattle.emit.proofs.least.Reads as least-reads
 use Rattle.lent.proofs.copy_words.Reads as copy-words-reads
 
 -- src/lib.rt:118:23

@@ -15,7 +15,7 @@ use Rattle.host.proofs.write_functions.Statement.{statement}
 use Rattle.host.proofs.write_functions.Tie as tie
 use Rattle.host.proofs.write_functions.Reads as reads
 use Rattle.host.proofs.write_functions.Lts as lts
-use Rattle.host.proofs.sum.Reads as sum-reads
+use Rattle.emit.proofs.sum.Reads as sum-reads
 use Rattle.host.proofs.write_function.Reads as write-function-reads
 use Rattle.tables.proofs.function_count.Reads as function-count-reads
 use Rattle.tables.proofs.function_place.Reads as function-place-reads
@@ -60,7 +60,7 @@ returns c = one-refused build.rules (c .before .before .before .before .before .
 
 -- src/lib.rt:184:9
 sum-requires : tie.Need-sum-requires Inv-loop μ-loop
-sum-requires c κs = c .before .before .before .before .before .before .before .before .before .before .loop .inv .0 .few
+sum-requires c κs = search needs
 
 -- src/lib.rt:185:9
 add-k : tie.Need-add-k Inv-loop μ-loop

@@ -15,7 +15,7 @@ use Rattle.link.proofs.link.Statement.{statement}
 use Rattle.link.proofs.link.Tie as tie
 use Rattle.link.proofs.link.Reads as reads
 use Rattle.link.proofs.link.Lts as lts
-use Rattle.link.proofs.least.Reads as least-reads
+use Rattle.emit.proofs.least.Reads as least-reads
 use Rattle.link.proofs.linked_word.Reads as linked-word-reads
 
 abbrev Inv-loop : tie.InvT-loop
