@@ -17,7 +17,7 @@ use lib.Dec.{eqb}
 use lib.ListN.{length, getD, set, length-set}
 use lib.Seq.{getD-set-same, getD-set-other}
 use borrow.Author.Tests.{eq-eqb, ne-eqb, eqb-true, eqb-false}
-use Rattle.rules.specs.Bytes.{pick, Name, eqName, inside, after, _or_}
+use Rattle.rules.specs.Bytes.{pick, Name, eqName, inside, after}
 use Rattle.rules.specs.Tables.{last, first-index}
 use Rattle.rules.specs.Tree.{Field, Struct}
 use Rattle.rules.specs.Read.{second, placesFrom, nameIn, fieldAt, fieldsAt, structAt, contractAt}
@@ -29,7 +29,7 @@ use Rattle.tables.specs.Listed.{structsIn}
 use Rattle.ambiguous.specs.declared.Spot.the-variants as spot
 use Rattle.ambiguous.specs.Spots.{spotOf}
 use Rattle.ambiguous.specs.Slots.{look, looked, Extends, Slot, Noted, Held}
-use Rattle.ambiguous.proofs.Positions.{field-zero, field-end, field-here, field-next}
+use Rattle.fields.specs.Steps.{field-zero, field-end, field-here, field-next}
 
 pub ext-refl : (t : List ℕ) → Extends t t
 ext-refl t = record { keys = λ h f. refl; values = λ h f. refl }

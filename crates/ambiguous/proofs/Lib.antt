@@ -1,6 +1,5 @@
 -- What the proofs of the functions use.
 mod Trees
 mod Walk
-pub mod Kept
-pub mod Positions
+mod Clashes
 mod Agreed

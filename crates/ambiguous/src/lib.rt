@@ -8,9 +8,9 @@ ghost use Rattle.tables.specs.Listed.{Tabled};
 ghost use Rattle.ambiguous.specs.Spots.{spotOf};
 
 mod agree;
-pub mod fields;
+mod apart;
 
-// The place of an access, or the position of a field in its struct.
+// The place of an access (in agree.rt: the slot of a key).
 pub enum Spot {
     At(usize),
     Nowhere,
@@ -29,7 +29,7 @@ fn in_access(img: &[u8], tables: &[usize], d: usize, at: usize) -> Spot
     ensures { λ r. ⌜ spotOf r ≡ inExpr (contractAt (now (img .entry))) (exprAs kAccess (exprAt d (now (img .entry))) (now (img .entry)) at) ⌝ }
 {
     let base = records::body(img, at);
-    if fields::is_ambiguous(img, tables, records::past(img, base)) {
+    if apart::is_ambiguous(img, tables, records::past(img, base)) {
         return Spot::At(at);
     }
     in_expr(img, tables, d, base)

@@ -94,7 +94,7 @@ module _ {img c : List ℕ} (s : List ℕ) {a : Answer} {c' F t : List ℕ} (m :
       let r = fitted img c s (w .program) (w .is) in
       (w .holds .tabled, (g, omega (arith, j, r)))
 
-  pub sized : a .refusal ≡ 0 → 1155 ≡ length t
+  pub sized : a .refusal ≡ 0 → 1824 ≡ length t
   sized z = sym (left-fine m z .holds .tabled .size)
 
   pub built-refused : {s' : List ℕ} → (a .refusal ≡ 0 → ⊥) → s' ≡ cleared s → Built img c s a c' s'

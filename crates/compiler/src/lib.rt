@@ -1,6 +1,6 @@
 // The public answers (01: What comes back): analyse and build, of any image and any room.
 pub mod stages;
-mod table;
+pub mod table;
 
 ghost use Rattle.compiler.specs.Ends.{Built};
 use rules::Answer;

@@ -10,7 +10,7 @@ ghost use Rattle.tables.specs.Listed.{Tabled, functionsIn};
 ghost use Rattle.compiler.specs.Made.{three, below};
 
 // How many parameters the function at f has.
-fn param_count(img: &[u8], f: usize) -> usize
+pub fn param_count(img: &[u8], f: usize) -> usize
     ensures { λ r. ⌜ r ≡ length (functionAt (now (img .entry)) f .params) ⌝ }
 {
     let list = records::past(img, records::body(img, f));

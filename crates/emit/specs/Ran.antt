@@ -2,7 +2,6 @@
 -- the value v, as the definition's m says.
 -- Assumes nothing.
 use mathlib.Core.Path.{_≡_}
-use mathlib.Core.Logic.{_⊎_}
 use mathlib.Core.Option.{Option, none, some}
 use mathlib.Core.List.{List, map}
 use Prim.Native.Nat.{ℕ, _+_, _%_, _^_, _≤_, _<_}
@@ -72,10 +71,6 @@ pub record Sums (a b r : ℕ) : Type 0 where
   pub few : a ≤ 4294967295 → r ≤ 4294967295
   pub low : a + b < 4294967295 → r < 4294967295
   pub exact : r < 4294967295 → r ≡ a + b
-
--- A window of so many words shows none of the next k: they lie before it, or past its end.
-abbrev pub Unseen : Tally → (k room : ℕ) → Type 0
-Unseen s k room = (s .n + k ≤ s .base) ⊎ (s .base + room ≤ s .n)
 
 module _ (raw : Open → ℕ) where
   -- The count stops at 2^32 - 1: below that all is exact.

@@ -2,7 +2,6 @@
 --     seq        one step, then another from its value
 --     still      a step that adds no word
 --     adds       a step that adds one word
---     skipped    words that the window does not show
 --     says-all   words, then more; says: one more in front; silent: none; said-first: the first, then the rest
 --     answered   a question with an answer; refuses: one that is refused
 --     renewed    a new register with its word, then another step from it
@@ -12,7 +11,6 @@
 -- Assumes nothing.
 use mathlib.Core.Path.{_≡_, refl, sym, ap, _∙_, subst}
 use mathlib.Core.List.{List, [], _∷_, _++_, map}
-use mathlib.Core.Logic.{_⊎_}
 use Prim.Native.Nat.{ℕ, suc, _+_, _-_, _<_, _≤_}
 use native.Mathlib.Omega.{arith}
 use lib.ListN.{length, length-append}
@@ -21,9 +19,9 @@ use Rattle.rules.specs.Refusal.{Refusal, Res, ok, bad, numberOf, placeOf}
 use Rattle.rules.specs.Machine.{Imm}
 use Rattle.rules.specs.Emit.{Open, emit, jump, loops, At-reg}
 use Rattle.emit.specs.Steps.{Out, after, _>>=_, done, say, ask, behind, at, Here, around, looping}
-use Rattle.emit.specs.Window.{emitted, laid, laid-append, laid-before, laid-unseen}
+use Rattle.emit.specs.Window.{emitted, laid, laid-append, laid-before}
 use Rattle.emit.specs.Laws.{after-none, after-after}
-use Rattle.emit.specs.Ran.{Tally, Failed, Reserved, Sums, Unseen, Good, Case, went, refused, Ran}
+use Rattle.emit.specs.Ran.{Tally, Failed, Reserved, Good, Case, went, refused, Ran}
 
 -- A loop's words: the way into its block, the way past it, the way back.
 abbrev pub jnz : (by reg : ℕ) → Open
@@ -108,23 +106,6 @@ module _ (raw : Open → ℕ) where
       code = λ y. h y .1 ∙ ap (λ (i : ℕ). emitted (s .base) (s .n) i c) x;
     });
     grows = l;
-    based = b;
-  }
-
-  -- words that the window does not show
-  pub skipped : {s r : Tally} {c : List ℕ} (ws : List Open) → r .err ≡ s .err → r .place ≡ s .place → r .base ≡ s .base → Sums (s .n) (length ws) (r .n)
-      → Unseen s (length ws) (length c) → Ran raw s c r c tt (say ws)
-  unfolding say
-  skipped {s} {r} {c} ws e p b t u = record {
-    keep = λ z. (e, p);
-    run = λ z. went (record { val = tt; words = ws }) (record {
-      fine = e ∙ z;
-      seen = refl;
-      low = t .low;
-      index = t .exact;
-      code = λ y. sym (laid-unseen (s .base) (s .n) (map raw ws) c (subst (λ (k : ℕ). (s .n + k ≤ s .base) ⊎ (s .base + length c ≤ s .n)) (sym (raw-length ws)) u));
-    });
-    grows = t .grows;
     based = b;
   }
 

@@ -4,7 +4,6 @@ use mathlib.Core.Path.{_≡_}
 use mathlib.Core.Bool.{Bool}
 use mathlib.Core.List.{List, [], _∷_}
 use Prim.Native.Nat.{ℕ, suc, _+_, _-_, _<_}
-use lib.ListN.{length}
 use Rattle.isa.specs.declared.Opcode.{Opcode}
 use Rattle.rules.specs.Bytes.{Name}
 use Rattle.rules.specs.Tables.{last-index}
@@ -16,7 +15,7 @@ use Rattle.rules.specs.Refusal.{Res}
 use Rattle.rules.specs.Emit.{At-reg}
 use Rattle.rules.specs.Generate.{alloc-reg}
 use Rattle.emit.specs.Steps.{Out, _>>=_, done, say, ask, at}
-use Rattle.emit.specs.Ran.{orFirst, wordOf, raw, Tally, Failed, Reserved, Unseen, Ran}
+use Rattle.emit.specs.Ran.{orFirst, wordOf, raw, Tally, Failed, Reserved, Ran}
 use Rattle.emit.specs.declared.St.{St}
 use Rattle.emit.specs.declared.Rules.{Rules}
 
@@ -48,12 +47,6 @@ pub record Takes (R : Rules) (st r : St) (p : ℕ) : Type 0 where
 -- reserve
 pub record Keeps (st r : St) : Type 0 where
   pub reserved : Reserved (tally st) (tally r)
-  pub next : r .next ≡ st .next
-  pub reg : r .reg ≡ st .reg
-
--- skip: any k words that the window does not show
-pub record Skips (st : St) (k : ℕ) (r : St) : Type 0 where
-  pub ran : (C : Contract) (c : List ℕ) (ws : List Open) → length ws ≡ k → Unseen (tally st) k (length c) → Ran (raw C) (tally st) c (tally r) c tt (say ws)
   pub next : r .next ≡ st .next
   pub reg : r .reg ≡ st .reg
 

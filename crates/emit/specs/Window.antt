@@ -2,18 +2,16 @@
 --     laid-append      some words, then others where they end
 --     laid-first       the first word is replaced, as a jump's is once its block has ended
 --     laid-over        from number 0, what the window shows of them lies over what was lent
---     laid-unseen      words that the window does not show leave it as it is
 -- Assumes nothing.
 use mathlib.Core.Path.{_≡_, refl, sym, ap, _∙_}
 use mathlib.Core.Bool.{Bool, true, false}
 use mathlib.Core.List.{List, [], _∷_, _++_}
-use mathlib.Core.Logic.{_⊎_, inl, inr}
 use Prim.Native.Nat.{ℕ, zero, suc, _+_, _-_, _≤_, _<_}
 use native.Mathlib.Nat.{add-zero, zero-add, add-suc, suc-add}
 use native.Mathlib.Omega.{arith}
 use lib.Dec.{leb}
 use lib.ListN.{length, set, drop, length-set}
-use lib.Seq.{sets, set-set, set-comm, set-out}
+use lib.Seq.{sets, set-set, set-comm}
 use borrow.Author.Tests.{leb-true, leb-false, le-leb, lt-leb}
 use Rattle.rules.specs.Bytes.{pick}
 use Rattle.rules.specs.Lent.{over}
@@ -120,21 +118,6 @@ laid-hidden (suc k) b n (w ∷ ws) c e =
 
 pub laid-over : (b : ℕ) (ws c : List ℕ) → laid b 0 ws c ≡ over (drop b ws) c
 laid-over b ws c = laid-hidden b b 0 ws c (sym (zero-add b))
-
--- Before the window, and past its end.
-unseen-one : (b n a : ℕ) (s : List ℕ) → (n < b) ⊎ (b + length s ≤ n) → emitted b n a s ≡ s
-unseen-one b n a s (inl h) = hidden b n a s h
-unseen-one b n a s (inr h) = shown b n a s (omega (arith, h)) ∙ set-out s (n - b) a (omega (arith, h))
-
-pub laid-unseen : (b n : ℕ) (ws s : List ℕ) → (n + length ws ≤ b) ⊎ (b + length s ≤ n) → laid b n ws s ≡ s
-unfolding laid
-laid-unseen b n [] s h = refl
-laid-unseen b n (w ∷ ws) s (inl h) =
-    let e = unseen-one b n w s (inl (omega (arith, h))) in
-    ap (λ (l : List ℕ). laid b (suc n) ws l) e ∙ laid-unseen b (suc n) ws s (inl (omega (arith, h)))
-laid-unseen b n (w ∷ ws) s (inr h) =
-    let e = unseen-one b n w s (inr h) in
-    ap (λ (l : List ℕ). laid b (suc n) ws l) e ∙ laid-unseen b (suc n) ws s (inr (omega (arith, h)))
 
 -- The plain build: a window that starts with the first word.
 pub laid-plain : (ws c : List ℕ) → laid 0 0 ws c ≡ over ws c

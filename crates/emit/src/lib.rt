@@ -4,12 +4,11 @@
 // do not matter. The words go into a lent slice, a window that shows those from number `base` on. Names are not in the state: the
 // scope is a lent array of numbers, its first cell the count (crate expr).
 ghost use mathlib.Core.Path.{_≡_};
-ghost use mathlib.Core.Bool.{true};
 ghost use Prim.Native.Nat.{suc, _%_, _^_, _-_, min};
 ghost use Rattle.rules.specs.Machine.{Imm, bitsOf};
 ghost use Rattle.emit.specs.Window.{emitted};
-ghost use Rattle.emit.specs.Ran.{wordOf, callOf, Sums, Unseen};
-ghost use Rattle.emit.specs.State.{moved, tally, Fails, Takes, Keeps, Skips, Puts, Emits, Calls, News};
+ghost use Rattle.emit.specs.Ran.{wordOf, callOf, Sums};
+ghost use Rattle.emit.specs.State.{moved, Fails, Takes, Keeps, Puts, Emits, Calls, News};
 use isa::Encoded;
 use isa::Instruction;
 use isa::Opcode;
@@ -101,44 +100,12 @@ impl St {
     pub fn reserve(self) -> St
         ensures { λ r. ⌜ Keeps self r ⌝ }
     {
-        let n = self.n;
-        if n < MOST {
-            St {
-                next: self.next,
-                reg: self.reg,
-                err: self.err,
-                place: self.place,
-                n: n + 1,
-                base: self.base,
-            }
-        } else {
-            self
-        }
-    }
-
-    // Whether a window of so many words shows none of the next k.
-    pub fn unseen(self, room: usize, k: usize) -> bool
-        ensures { λ r. ⌜ (r ≡ true → Unseen (tally self) k room) ⌝ }
-    {
-        let n = self.n;
-        let base = self.base;
-        if n < base {
-            k <= base - n
-        } else {
-            room <= n - base
-        }
-    }
-
-    // k words that the window does not show: they are only counted.
-    pub fn skip(self, k: usize) -> St
-        ensures { λ r. ⌜ Skips self k r ⌝ }
-    {
         St {
             next: self.next,
             reg: self.reg,
             err: self.err,
             place: self.place,
-            n: sum(self.n, k),
+            n: sum(self.n, 1),
             base: self.base,
         }
     }

@@ -55,14 +55,6 @@ pub fn clear(table: &mut [Entry])
     }
 }
 
-// How many parameters the function at f has.
-fn param_count(img: &[u8], f: usize) -> usize
-    ensures { λ r. ⌜ r ≡ length (functionAt (now (img .entry)) f .params) ⌝ }
-{
-    let list = records::past(img, records::body(img, f));
-    records::count(img, records::body(img, list), records::past(img, list), 512)
-}
-
 // The entry of function k (01: place, first word, parameter count).
 fn entry_no(img: &[u8], tables: &[usize], firsts: &[usize], k: usize) -> Entry
     requires { ⌜ Tabled (now img) (now tables) × ((k < length (functionsIn (now img))) × (k < length (now firsts))) ⌝ }
@@ -72,7 +64,7 @@ fn entry_no(img: &[u8], tables: &[usize], firsts: &[usize], k: usize) -> Entry
     Entry {
         place: place as u64,
         first: firsts[k] as u64,
-        params: param_count(img, place) as u64,
+        params: compiler::table::param_count(img, place) as u64,
     }
 }
 

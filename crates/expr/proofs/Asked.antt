@@ -1,19 +1,17 @@
--- Questions with their answers: a name in scope, a storage field, a function, a builtin, a field.
+-- Questions with their answers: a name in scope, a storage field, a function, a builtin.
 -- Assumes nothing.
 use mathlib.Core.Path.{_≡_, refl, sym, ap, _∙_, subst}
 use mathlib.Core.Bool.{true, false}
 use mathlib.Core.List.{List, [], _∷_}
 use mathlib.Core.Option.{Option, none, some}
-use Prim.Native.Nat.{ℕ, _<_}
-use native.Mathlib.Omega.{arith}
-use Rattle.rules.specs.Bytes.{pick, Name, eqName, nameAt, inside, after}
-use Rattle.rules.specs.Tables.{first-index}
-use Rattle.rules.specs.Tree.{Field}
-use Rattle.rules.specs.Read.{fieldsAt, contractAt}
+use Prim.Native.Nat.{ℕ}
+use Rattle.rules.specs.Bytes.{pick, Name, eqName, le16, le32, nameAt}
+use Rattle.rules.specs.Read.{contractAt}
 use Rattle.rules.specs.Refusal.{Refusal, ok, known, numberOf, placeOf}
 use Rattle.rules.specs.Builtins as rules
 use Rattle.rules.specs.Emit.{find}
 use Rattle.rules.specs.Generate.{slot}
+use Rattle.records.specs.Keys.{keyOf, differ}
 use Rattle.tables.specs.declared.Found.{Found}
 use Rattle.tables.specs.declared.Found.the-variants as found
 use Rattle.tables.specs.Listed.{Named, indexOf, functionsIn, storageIn}
@@ -24,11 +22,9 @@ use Rattle.emit.specs.State.{tally, moved, Fails}
 use Rattle.emit.specs.Refines.{answered, refuses}
 use Rattle.expr.specs.declared.names.Local.{Local}
 use Rattle.expr.specs.declared.names.Local.the-variants as local
-use Rattle.expr.specs.declared.names.Spot.the-variants as spot
 use Rattle.expr.specs.Scope.{scopeIn}
-use Rattle.expr.specs.Names.{regOf, functionIn, spotOf, Position}
+use Rattle.expr.specs.Names.{regOf, Unknown, functionIn}
 use Rattle.expr.specs.Steps.{Finds, Slots}
-use Rattle.expr.proofs.Fields.{fieldsFrom}
 
 -- The refusal that has this number and place.
 as-refusal : {s r : Tally} (q : Refusal) (number place : ℕ) → numberOf q ≡ number → placeOf q ≡ place → Failed s r number place → Failed s r (numberOf q) (placeOf q)
@@ -115,19 +111,9 @@ module _ (x : Name) where
   unfolding rules.builtin pick
   is-none a b c d e = rw (a, b, c, d, e) refl
 
--- A field's position.
-module _ (img : List ℕ) (l : ℕ) (x : Name) where
-  abbrev pub Sought : Option ℕ → Type 0
-  Sought o = o ≡ first-index (λ (f : Field). f .name) 0 x (fieldsAt 64 img l)
-
-  pub sought : (p e : ℕ) → p ≡ inside img l → e ≡ after img l → Sought (first-index (λ (f : Field). f .name) 0 x (fieldsFrom img 64 p e))
-  unfolding fieldsAt
-  sought p e f g = rw (f, g) refl
-
-  pub placed : (n : ℕ) → n < 64 → Sought (some n) → Position img l x (spot.At n)
-  unfolding spotOf
-  placed n h e = record { is = e; below = λ k q. let f : n ≡ k = cc in omega (arith, f) }
-
-  pub nowhere : Sought none → Position img l x spot.Nowhere
-  unfolding spotOf
-  nowhere e = record { is = e; below = λ k q. absurd (let z : _≡_ {A = ℕ} 0 1 = cc in omega arith) }
+-- A key that is none of theirs.
+pub no-builtin : (key : ℕ) → (key ≡ 7957689470423363440 → ⊥) → (key ≡ 8243105117560599405 → ⊥) → (key ≡ 7305804444525359981 → ⊥) → (key ≡ 8243102914930764898 → ⊥)
+    → (key ≡ 7381240851469591926 → ⊥) → Unknown key
+unfolding keyOf le32 le16
+no-builtin key a b c d e x h = sym (is-none x (differ x poseidon (λ z. a (sym h ∙ z))) (differ x sender (λ z. b (sym h ∙ z))) (differ x nonce (λ z. c (sym h ∙ z))) (differ x number (λ z. d (sym h ∙ z)))
+    (differ x merkle (λ z. e (sym h ∙ z))))

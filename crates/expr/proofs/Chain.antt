@@ -3,10 +3,9 @@
 use mathlib.Core.Path.{_≡_, refl, sym, ap, _∙_, subst}
 use mathlib.Core.Bool.{false}
 use mathlib.Core.List.{List, [], _∷_}
-use Prim.Native.Nat.{ℕ, zero, suc, _+_, _-_, _*_, _/_, _%_, _≤_, _<_, max}
-use native.Mathlib.Numerals.{sub-one, add-one}
+use Prim.Native.Nat.{ℕ, suc, _-_, _*_, _/_, _%_, _≤_, _<_, max}
 use native.Mathlib.Omega.{arith}
-use lib.ListN.{length, getD}
+use lib.ListN.{length}
 use borrow.Author.Tests.{le-leb, lt-leb}
 use Rattle.isa.specs.declared.Opcode.{Opcode}
 use Rattle.isa.specs.declared.Opcode.the-variants as op
@@ -14,18 +13,18 @@ use Rattle.rules.specs.Bytes.{pick}
 use Rattle.rules.specs.Tree.{Contract}
 use Rattle.rules.specs.Refusal.{ok}
 use Rattle.rules.specs.Machine.{Imm, bitsOf}
-use Rattle.rules.specs.Emit.{emit, push, pop, load, add, count, stores, At-reg}
+use Rattle.rules.specs.Emit.{emit, load, add, At-reg}
 use Rattle.rules.specs.Generate.{alloc-reg, result}
 use Rattle.emit.specs.declared.St.{St}
 use Rattle.emit.specs.declared.Rules.{Rules}
 use Rattle.emit.specs.Steps.{_>>=_, done, say, ask, at, gen-number}
 use Rattle.emit.specs.Ran.{wordOf, raw, Ran}
 use Rattle.emit.specs.State.{rulesOf, tally, moved, fresh, Takes, Emits, News, Calls}
-use Rattle.emit.specs.Refines.{seq, answered, says, says-all, silent, said-first, renewed}
+use Rattle.emit.specs.Refines.{seq, answered, says, says-all, said-first, renewed}
 use Rattle.emit.specs.Leaves.{raw-word, cut-rd, cut-rs1, ends-at}
 use Rattle.expr.specs.declared.steps.Value.{Value}
-use Rattle.expr.specs.Values.{valueOf, valuesIn, Ends, Says, CallEnds, Chooses, pushed, popped, argued, stored, shifted, chunked, numbered, combined, mapping-read, literal-end}
-use Rattle.expr.proofs.Values.{values-none, values-more, length-values, pop-none, pop-first, parts-first, parts-later, shift-none, shift-some, shift-more}
+use Rattle.expr.specs.Values.{valueOf, regsIn, Ends, Says, CallEnds, Chooses, popped, argued, stored, shifted, chunked, numbered, combined, mapping-read, literal-end}
+use Rattle.expr.proofs.Values.{length-regs, parts-first, parts-later, shift-none, shift-some, shift-more}
 
 -- A new register from a state with its next register set.
 pub takes-from : (R : Rules) (s : St) {a r : St} (x y p : ℕ) → a ≡ moved s x y → Takes R a r p
@@ -69,55 +68,6 @@ pub reads-mapping : (R : Rules) (key b t r : St) {c c1 c2 c3 : List ℕ} (p k : 
     → News R t c2 p op.SRead 0 (t .reg) 4294967295 r c3 → Ends key c r c3 (mapping-read R p k (key .reg) (key .next))
 reads-mapping R key b t r p k f g h = λ C. renewed (raw C) _ _ _ (f .ran C)
     (renewed (raw C) _ _ _ (rw (f .next) at (g .ran C)) (rw (g .next) at (h .any C (λ d. emit p op.SRead d 0 (t .reg) (Imm.neg 1)) (λ d. minus-one C p d 0 (t .reg)))))
-
--- Pushes and pops
-module _ (st : St) (c : List ℕ) where
-  pub push-none : (r k : ℕ) → k ≡ 0 → Says st c st c (pushed r k)
-  unfolding count
-  push-none r k e = record { ran = λ C p. rw e (silent (raw C) refl); next = refl }
-
-  pub push-more : {a s : St} {c1 c2 : List ℕ} (r k : ℕ) → (k ≡ 0 → ⊥) → Emits st c op.Push 0 (r % 256) 0 0 a c1 → Says a c1 s c2 (pushed (r + 1) (k - 1)) → Says st c s c2 (pushed r k)
-  unfolding count bitsOf
-  push-more r zero h f g = absurd (h refl)
-  push-more r (suc k) h f g = record {
-    ran = λ C p. says (raw C) (push p r) _ (f .any C _ (cut-rs1 op.Push 0 r 0 0 ∙ raw-word C p false _ _ refl)) (rw (add-one, sub-one) at (g .ran C p));
-    next = g .next ∙ f .next;
-  }
-
-  pub pop-zero : (k : ℕ) → k ≡ 0 → Says st c st c (popped k)
-  pop-zero k e = record { ran = λ C p. rw (pop-none k p e) (silent (raw C) refl); next = refl }
-
-  pub pop-more : {a s : St} {c1 c2 : List ℕ} (k : ℕ) → (k ≡ 0 → ⊥) → Emits st c op.Pop (k % 256) 0 0 0 a c1 → Says a c1 s c2 (popped (k - 1)) → Says st c s c2 (popped k)
-  unfolding bitsOf
-  pop-more k h f g = record {
-    ran = λ C p. rw (pop-first k p h) (says (raw C) (pop p k) _ (f .any C _ (cut-rd op.Pop k 0 0 0 ∙ raw-word C p false _ _ refl)) (g .ran C p));
-    next = g .next ∙ f .next;
-  }
-
-  pub argue-none : (vals : List ℕ) (i n : ℕ) → n ≤ i → Says st c st c (argued (valuesIn vals i (n - i)))
-  argue-none vals i n h = record { ran = λ C p. rw (values-none vals i n h) (silent (raw C) refl); next = refl }
-
-  pub argue-more : {a s : St} {c1 c2 : List ℕ} (vals : List ℕ) (i n : ℕ) → i < n → Emits st c op.Push 0 (getD vals (2 * i) 0 % 256) 0 0 a c1
-      → Says a c1 s c2 (argued (valuesIn vals (i + 1) (n - (i + 1)))) → Says st c s c2 (argued (valuesIn vals i (n - i)))
-  argue-more vals i n h f g = record {
-    ran = λ C p. rw (values-more vals i n h) (says (raw C) _ _ (f .ran C p false) (g .ran C p));
-    next = g .next ∙ f .next;
-  }
-
-  pub store-none : (vals : List ℕ) (q i n : ℕ) → n ≤ i → Says st c st c (stored q i (valuesIn vals i (n - i)))
-  unfolding stores
-  store-none vals q i n h = record { ran = λ C p. rw (values-none vals i n h) (silent (raw C) refl); next = refl }
-
-  pub store-more : {a s : St} {c1 c2 : List ℕ} (vals : List ℕ) (q i n : ℕ) → i < n → Emits st c op.Store 0 q (getD vals (2 * i) 0 % 256) (i * 8) a c1
-      → Says a c1 s c2 (stored q (i + 1) (valuesIn vals (i + 1) (n - (i + 1)))) → Says st c s c2 (stored q i (valuesIn vals i (n - i)))
-  unfolding stores
-  store-more {a} {s} {c1} {c2} vals q i n h f g =
-      let e : i + 1 ≡ suc i = omega arith in
-      record {
-        ran = λ C p. rw (values-more vals i n h) (says (raw C) _ _ (f .ran C p false)
-            (subst (λ (j : ℕ). Ran (raw C) (tally a) c1 (tally s) c2 tt (say (stores p q j (valuesIn vals (i + 1) (n - (i + 1)))))) e (g .ran C p)));
-        next = g .next ∙ f .next;
-      }
 
 -- The chunks of a number
 module _ (st : St) (c : List ℕ) (r s t : ℕ) where
@@ -186,20 +136,18 @@ news-from : (R : Rules) (s : St) {e r : St} {c c' : List ℕ} (x y p : ℕ) (o :
     → (C : Contract) → Ran (raw C) (tally s) c (tally r) c' (at (r .reg) (r .next)) (fresh (alloc-reg (rulesOf R) C p y) (λ d. emit p o d a b (Imm.pos i)))
 news-from R s {e} {r} {c} {c'} x y p o a b i f g C = subst (λ (z : St). Ran (raw C) (tally z) c (tally r) c' (at (r .reg) (r .next)) (fresh (alloc-reg (rulesOf R) C p (z .next)) (λ d. emit p o d a b (Imm.pos i)))) f (g .ran C)
 
-pub closes-literal : (R : Rules) (v a z l b e r : St) {c c1 c2 c3 c4 : List ℕ} (p n q k h m : ℕ) (vals : List ℕ) → Says v c a c1 (stored q 0 (valuesIn vals 0 (m - 0))) → Takes R a z p
+pub closes-literal : (R : Rules) (v a z l b e r : St) {c c1 c2 c3 c4 : List ℕ} (p n q k h m : ℕ) (vals : List ℕ) → Says v c a c1 (stored q 0 (regsIn vals 0 m)) → Takes R a z p
     → Emits z c1 op.Load (z .reg) 0 0 k l c2 → k ≡ m * 8 → Emits l c2 op.Add h h (z .reg) 0 b c3 → h ≡ suc (R .free) % 256 → e ≡ moved b 0 n → News R e c3 p op.Add q 0 0 r c4
-    → Ends v c r c4 (literal-end R p n q (valuesIn vals 0 m) (v .next))
+    → Ends v c r c4 (literal-end R p n q (regsIn vals 0 m) (v .next))
 closes-literal R v a z l b e r {c} {c1} p n q k h m vals f g i s j u w x =
-    let zero-off : m - 0 ≡ m = omega arith in
-    let size : k ≡ length (valuesIn vals 0 m) * 8 = s ∙ ap (λ (y : ℕ). y * 8) (sym (length-values vals 0 m)) in
-    λ C. seq (raw C) _ (rw zero-off at (f .ran C p)) (seq (raw C) _ (rw (f .next) at (g .ran C c1)) (said-first (raw C) _ _ _ (rw size at (i .ran C p false))
+    let size : k ≡ length (regsIn vals 0 m) * 8 = s ∙ ap (λ (y : ℕ). y * 8) (sym (length-regs vals 0 m)) in
+    λ C. seq (raw C) _ (f .ran C p) (seq (raw C) _ (rw (f .next) at (g .ran C c1)) (said-first (raw C) _ _ _ (rw size at (i .ran C p false))
     (seq (raw C) _ (j .any C _ (heap-word C p h (R .free) (z .reg) u)) (news-from R b 0 n p op.Add q 0 0 w x C))))
 
 -- Call
-pub closes-call : (R : Rules) (v a g b d e s : St) {c c1 c2 c3 c4 : List ℕ} (p n i k m : ℕ) (vals : List ℕ) → Says v c a c1 (argued (valuesIn vals 0 (m - 0))) → Calls a c1 i g c2
+pub closes-call : (R : Rules) (v a g b d e s : St) {c c1 c2 c3 c4 : List ℕ} (p n i k m : ℕ) (vals : List ℕ) → Says v c a c1 (argued (regsIn vals 0 m)) → Calls a c1 i g c2
     → b ≡ moved g 0 n → News R b c2 p op.Pop 0 0 0 d c3 → Says d c3 e c4 (popped k) → k ≡ n - 1 → s ≡ moved e (d .reg) (d .next)
-    → CallEnds v c s c4 R p n (valuesIn vals 0 m) i
+    → CallEnds v c s c4 R p n (regsIn vals 0 m) i
 closes-call R v a g b d e s {c} {c1} {c2} {c3} {c4} p n i k m vals f h w x y z u =
-    let zero-off : m - 0 ≡ m = omega arith in
-    λ C name j. seq (raw C) _ (rw zero-off at (f .ran C p)) (seq (raw C) _ (h .ran C p name j) (renewed (raw C) _ _ _ (news-from R g 0 n p op.Pop 0 0 0 w x C)
+    λ C name j. seq (raw C) _ (f .ran C p) (seq (raw C) _ (h .ran C p name j) (renewed (raw C) _ _ _ (news-from R g 0 n p op.Pop 0 0 0 w x C)
     (seq (raw C) _ (rw z at (y .ran C p)) (ends-at e (raw C) (u ∙ ap (λ (o : ℕ). moved e (d .reg) o) (x .next))))))

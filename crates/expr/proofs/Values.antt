@@ -1,55 +1,147 @@
 -- Lists of values and of words, an element at a time.
---     values-none, values-more, arg-at, arg-past, kept-more     values of an array
---     pop-first      the registers from k down to 1
+--     regs-none, regs-next, regs-more, reg-there, reg-past     registers of an array
+--     regs-append, reg-of, argued-is, stored-is     registers of values
+--     arg-last, arg-before     one more value behind others
+--     push-none, push-first     the registers from i + 1 up to k
+--     pop-none, pop-first     the registers from k - i down to 1
 --     parts-first, parts-later, shift-none, shift-some, shift-more     the chunks of a number
 -- Assumes nothing.
 use mathlib.Core.Path.{_≡_, refl, sym, ap, _∙_}
 use mathlib.Core.List.{List, [], _∷_, _++_, map, reverse, reverseAux}
-use Prim.Native.Nat.{ℕ, zero, suc, _+_, _-_, _*_, _%_, _≤_, _<_}
+use Prim.Native.Nat.{ℕ, zero, suc, _+_, _-_, _*_, _≤_, _<_}
 use native.Mathlib.Nat.{zero-add, add-zero, le-of-suc-le-suc, not-suc-le-zero}
 use native.Mathlib.Omega.{arith}
-use lib.ListN.{length, getD, List·getD-eq-default}
+use lib.ListN.{length, getD, set, List·getD-eq-default}
+use lib.Seq.{getD-set-same, getD-set-other}
+use borrow.Author.Tests.{ne-eqb}
 use Rattle.isa.specs.declared.Opcode.the-variants as op
+use Rattle.rules.specs.Bytes.{pick}
 use Rattle.rules.specs.Tree.{BinOp}
 use Rattle.rules.specs.Read.{binOpOf}
 use Rattle.rules.specs.Machine.{Imm}
-use Rattle.rules.specs.Emit.{emit, pop, load, add, opcode, count, parts, shift-in, At-reg, arg}
+use Rattle.rules.specs.Emit.{Open, emit, push, pop, load, add, opcode, count, parts, shift-in, stores, At-reg, arg}
 use Rattle.emit.specs.Steps.{at}
-use Rattle.expr.specs.Values.{valuesIn, popped}
+use Rattle.emit.specs.declared.St.{St}
+use Rattle.expr.specs.declared.steps.Several.{Several}
+use Rattle.expr.specs.Values.{regsIn, regsOf, more, pushed, popped, argued, stored}
 
--- the value at number i
-abbrev pub cellsAt : List ℕ → ℕ → At-reg
-cellsAt a i = at (getD a (2 * i) 0 % 256) (getD a (2 * i + 1) 0)
+-- registers of an array
+pub regs-none : (a : List ℕ) (i n : ℕ) → n ≤ i → regsIn a i (n - i) ≡ []
+unfolding regsIn
+regs-none a i n h = let e : n - i ≡ 0 = omega arith in ap (λ (k : ℕ). regsIn a i k) e
 
-pub values-none : (a : List ℕ) (i n : ℕ) → n ≤ i → valuesIn a i (n - i) ≡ []
-unfolding valuesIn
-values-none a i n h = let e : n - i ≡ 0 = omega arith in ap (λ (k : ℕ). valuesIn a i k) e
-
-pub values-more : (a : List ℕ) (i n : ℕ) → i < n → valuesIn a i (n - i) ≡ cellsAt a i ∷ valuesIn a (i + 1) (n - (i + 1))
-unfolding valuesIn
-values-more a i n h =
+pub regs-next : (a : List ℕ) (i n : ℕ) → i < n → regsIn a i (n - i) ≡ getD a i 0 ∷ regsIn a (i + 1) (n - (i + 1))
+unfolding regsIn
+regs-next a i n h =
     let e : n - i ≡ suc (n - (i + 1)) = omega arith in
     let f : suc i ≡ i + 1 = omega arith in
-    ap (λ (k : ℕ). valuesIn a i k) e ∙ ap (λ (j : ℕ). cellsAt a i ∷ valuesIn a j (n - (i + 1))) f
+    ap (λ (k : ℕ). regsIn a i k) e ∙ ap (λ (j : ℕ). getD a i 0 ∷ regsIn a j (n - (i + 1))) f
 
-pub length-values : (a : List ℕ) (i k : ℕ) → length (valuesIn a i k) ≡ k
-unfolding valuesIn
-length-values a i zero = refl
-length-values a i (suc k) = ap suc (length-values a (suc i) k)
+pub length-regs : (a : List ℕ) (i k : ℕ) → length (regsIn a i k) ≡ k
+unfolding regsIn
+length-regs a i zero = refl
+length-regs a i (suc k) = ap suc (length-regs a (suc i) k)
 
-values-at : (a : List ℕ) (i k j : ℕ) (d : At-reg) → j < k → getD (valuesIn a i k) j d ≡ cellsAt a (i + j)
-unfolding valuesIn
-values-at a i zero j d h = absurd (not-suc-le-zero h)
-values-at a i (suc k) zero d h = ap (cellsAt a) (sym (add-zero i))
-values-at a i (suc k) (suc j) d h = let e : suc i + j ≡ i + suc j = omega arith in values-at a (suc i) k j d (le-of-suc-le-suc h) ∙ ap (cellsAt a) e
+regs-at : (a : List ℕ) (i k j : ℕ) → j < k → getD (regsIn a i k) j 0 ≡ getD a (i + j) 0
+unfolding regsIn
+regs-at a i zero j h = absurd (not-suc-le-zero h)
+regs-at a i (suc k) zero h = ap (λ (n : ℕ). getD a n 0) (sym (add-zero i))
+regs-at a i (suc k) (suc j) h = let e : suc i + j ≡ i + suc j = omega arith in regs-at a (suc i) k j (le-of-suc-le-suc h) ∙ ap (λ (n : ℕ). getD a n 0) e
 
-pub arg-at : (a : List ℕ) (k j : ℕ) → j < k → cellsAt a j ≡ arg j (valuesIn a 0 k)
+pub reg-there : (a : List ℕ) (k j : ℕ) → j < k → getD a j 0 ≡ getD (regsIn a 0 k) j 0
+reg-there a k j h = sym (regs-at a 0 k j h ∙ ap (λ (n : ℕ). getD a n 0) (zero-add j))
+
+pub reg-past : (a : List ℕ) (k j : ℕ) → k ≤ j → 0 ≡ getD (regsIn a 0 k) j 0
+reg-past a k j h = sym (List·getD-eq-default (regsIn a 0 k) _ (rw (length-regs a 0 k) h))
+
+-- one more is stored behind the first k
+regs-other : (a : List ℕ) (i k j x : ℕ) → i + k ≤ j → regsIn (set a j x) i k ≡ regsIn a i k
+unfolding regsIn
+regs-other a i zero j x h = refl
+regs-other a i (suc k) j x h = rw (getD-set-other a j i x 0 (λ z. omega (arith, z, h)), regs-other a (suc i) k j x (omega (arith, h))) refl
+
+regs-last : (a : List ℕ) (i k : ℕ) → regsIn a i (suc k) ≡ regsIn a i k ++ (getD a (i + k) 0 ∷ [])
+unfolding regsIn
+regs-last a i zero = ap (λ (n : ℕ). getD a n 0 ∷ []) (sym (add-zero i))
+regs-last a i (suc k) =
+    let e : suc i + k ≡ i + suc k = omega arith in
+    ap (λ (l : List ℕ). getD a i 0 ∷ l) (regs-last a (suc i) k ∙ ap (λ (n : ℕ). regsIn a (suc i) k ++ (getD a n 0 ∷ [])) e)
+
+pub regs-more : (a : List ℕ) (k x : ℕ) → k < length a → regsIn (set a k x) 0 (k + 1) ≡ regsIn a 0 k ++ (x ∷ [])
+regs-more a k x h =
+    let e : k + 1 ≡ suc k = omega arith in
+    let z : 0 + k ≡ k = omega arith in
+    ap (regsIn (set a k x) 0) e
+    ∙ regs-last (set a k x) 0 k
+    ∙ ap (λ (l : List ℕ). l ++ (getD (set a k x) (0 + k) 0 ∷ [])) (regs-other a 0 k k x (omega arith))
+    ∙ ap (λ (n : ℕ). regsIn a 0 k ++ (n ∷ [])) (ap (λ (n : ℕ). getD (set a k x) n 0) z ∙ getD-set-same a k x 0 h)
+
+-- registers of values
+pub regs-append : (vs : List At-reg) (v : At-reg) → regsOf (vs ++ (v ∷ [])) ≡ regsOf vs ++ (v .reg ∷ [])
+regs-append [] v = refl
+regs-append (x ∷ vs) v = ap (λ (l : List ℕ). x .reg ∷ l) (regs-append vs v)
+
+pub length-regsOf : (vs : List At-reg) → length (regsOf vs) ≡ length vs
+length-regsOf [] = refl
+length-regsOf (v ∷ vs) = ap suc (length-regsOf vs)
+
+pub reg-of : (vs : List At-reg) (j : ℕ) → getD (regsOf vs) j 0 ≡ arg j vs .reg
 unfolding arg
-arg-at a k j h = sym (values-at a 0 k j _ h ∙ ap (cellsAt a) (zero-add j))
+reg-of [] j = refl
+reg-of (v ∷ vs) zero = refl
+reg-of (v ∷ vs) (suc j) = reg-of vs j
 
-pub arg-past : (a : List ℕ) (k j : ℕ) → k ≤ j → at 0 0 ≡ arg j (valuesIn a 0 k)
+-- the value behind others, and those before it
+pub arg-last : (vs : List At-reg) (v : At-reg) (j : ℕ) → length vs ≡ j → arg j (vs ++ (v ∷ [])) ≡ v
 unfolding arg
-arg-past a k j h = sym (List·getD-eq-default (valuesIn a 0 k) _ (rw (length-values a 0 k) h))
+arg-last [] v j e = ap (λ (n : ℕ). getD (v ∷ []) n (at 0 0)) (sym e)
+arg-last (x ∷ vs) v j e = ap (λ (n : ℕ). getD (x ∷ (vs ++ (v ∷ []))) n (at 0 0)) (sym e) ∙ arg-last vs v (length vs) refl
+
+pub arg-before : (vs : List At-reg) (v : At-reg) (j : ℕ) → (length vs ≡ j → ⊥) → arg j (vs ++ (v ∷ [])) ≡ arg j vs
+unfolding arg
+arg-before [] v zero h = absurd (h refl)
+arg-before [] v (suc j) h = refl
+arg-before (x ∷ vs) v zero h = refl
+arg-before (x ∷ vs) v (suc j) h = arg-before vs v j (λ e. h (ap suc e))
+
+pub argued-is : (p : ℕ) (vs : List At-reg) → argued (regsOf vs) p ≡ map (λ (v : At-reg). push p (v .reg)) vs
+argued-is p [] = refl
+argued-is p (v ∷ vs) = ap (λ (l : List Open). push p (v .reg) ∷ l) (argued-is p vs)
+
+pub stored-is : (p q i : ℕ) (vs : List At-reg) → stored q i (regsOf vs) p ≡ stores p q i vs
+unfolding stores
+stored-is p q i [] = refl
+stored-is p q i (v ∷ vs) = ap (λ (l : List Open). emit p op.Store 0 q (v .reg) (Imm.pos (i * 8)) ∷ l) (stored-is p q (suc i) vs)
+
+pub store-none : (a : List ℕ) (q i n p : ℕ) → n ≤ i → stored q i (regsIn a i (n - i)) p ≡ []
+unfolding stores
+store-none a q i n p h = ap (λ (l : List ℕ). stored q i l p) (regs-none a i n h)
+
+-- one more value, by its number
+module _ (v : Several) (s : St) where
+  pub more-first : v .count ≡ 0 → record { st = s; count = v .count + 1; first = s .next; second = v .second } ≡ more v s
+  unfolding pick
+  more-first e = rw e refl
+
+  pub more-second : v .count ≡ 1 → record { st = s; count = v .count + 1; first = v .first; second = s .next } ≡ more v s
+  unfolding pick
+  more-second e = rw e refl
+
+  pub more-later : (v .count ≡ 0 → ⊥) → (v .count ≡ 1 → ⊥) → record { st = s; count = v .count + 1; first = v .first; second = v .second } ≡ more v s
+  unfolding pick
+  more-later a b = simp (ne-eqb _ _ a, ne-eqb _ _ b)
+
+-- the registers from i + 1 up to k
+pub push-none : (i k p : ℕ) → k ≤ i → pushed (i + 1) (k - i) p ≡ []
+unfolding count
+push-none i k p h = let e : k - i ≡ 0 = omega arith in ap (λ (n : ℕ). pushed (i + 1) n p) e
+
+pub push-first : (i k p : ℕ) → i < k → pushed (i + 1) (k - i) p ≡ push p (i + 1) ∷ pushed (i + 1 + 1) (k - (i + 1)) p
+unfolding count
+push-first i k p h =
+    let e : k - i ≡ suc (k - (i + 1)) = omega arith in
+    let f : suc (i + 1) ≡ i + 1 + 1 = omega arith in
+    ap (λ (n : ℕ). pushed (i + 1) n p) e ∙ ap (λ (n : ℕ). push p (i + 1) ∷ pushed n (k - (i + 1)) p) f
 
 -- the registers from k down to 1
 count-last : (a k : ℕ) → count a (suc k) ≡ count a k ++ ((a + k) ∷ [])
@@ -61,18 +153,17 @@ reverse-last : (xs : List ℕ) (y : ℕ) (r : List ℕ) → reverseAux (xs ++ (y
 reverse-last [] y r = refl
 reverse-last (x ∷ xs) y r = reverse-last xs y (x ∷ r)
 
-pub pop-none : (k p : ℕ) → k ≡ 0 → popped k p ≡ []
+pub pop-none : (i k p : ℕ) → k ≤ i → popped (k - i) p ≡ []
 unfolding count
-pop-none k p e = ap (λ (n : ℕ). popped n p) e
+pop-none i k p h = let e : k - i ≡ 0 = omega arith in ap (λ (n : ℕ). popped n p) e
 
-pub pop-first : (k p : ℕ) → (k ≡ 0 → ⊥) → popped k p ≡ pop p k ∷ popped (k - 1) p
-pop-first zero p h = absurd (h refl)
-pop-first (suc k) p h =
-    let e : 1 + k ≡ suc k = omega arith in
-    let f : k ≡ suc k - 1 = omega arith in
-    ap (λ (l : List ℕ). map (pop p) (reverse l)) (count-last 1 k ∙ ap (λ (n : ℕ). count 1 k ++ (n ∷ [])) e)
-    ∙ ap (λ (l : List ℕ). map (pop p) l) (reverse-last (count 1 k) (suc k) [])
-    ∙ ap (λ (n : ℕ). pop p (suc k) ∷ popped n p) f
+pub pop-first : (i k p : ℕ) → i < k → popped (k - i) p ≡ pop p (k - (i + 1) + 1) ∷ popped (k - (i + 1)) p
+pop-first i k p h =
+    let z : k - i ≡ suc (k - (i + 1)) = omega arith in
+    let e : 1 + (k - (i + 1)) ≡ k - (i + 1) + 1 = omega arith in
+    ap (λ (n : ℕ). popped n p) z
+    ∙ ap (λ (l : List ℕ). map (pop p) (reverse l)) (count-last 1 (k - (i + 1)) ∙ ap (λ (n : ℕ). count 1 (k - (i + 1)) ++ (n ∷ [])) e)
+    ∙ ap (λ (l : List ℕ). map (pop p) l) (reverse-last (count 1 (k - (i + 1))) (k - (i + 1) + 1) [])
 
 -- the chunks of a number
 module _ (p r s t : ℕ) where

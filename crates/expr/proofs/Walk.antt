@@ -1,41 +1,38 @@
 -- The walk, an expression at a time: what its parts did is what the definition does.
 -- Assumes nothing.
-use mathlib.Core.Path.{_≡_, refl, ap, _∙_, subst}
+use mathlib.Core.Path.{_≡_, refl, sym, ap, _∙_, subst}
 use mathlib.Core.Bool.{false}
 use mathlib.Core.List.{List, [], _∷_}
 use mathlib.Core.Option.{Option, none, some}
-use Prim.Native.Nat.{ℕ, zero, suc, _+_, _-_, _*_, _%_, _≤_, _<_}
+use Prim.Native.Nat.{ℕ, zero, suc, _+_, _-_, _%_, _≤_, _<_}
 use native.Mathlib.Numerals.{sub-one}
 use native.Mathlib.Omega.{arith}
-use lib.ListN.{length, getD, set, length-set}
-use lib.Seq.{getD-set-same, getD-set-other}
+use lib.ListN.{getD}
 use borrow.Author.Tests.{ne-eqb, lt-ltb, le-ltb}
 use Rattle.isa.specs.declared.Opcode.{Opcode}
 use Rattle.isa.specs.declared.Opcode.the-variants as op
 use Rattle.rules.specs.Bytes.{pick, nameAt, inside, after, kindAt, intAt, opAt}
 use Rattle.rules.specs.Tree.{Expr, Contract}
 use Rattle.rules.specs.Read.{Kind, kInt, kIdent, kStorage, kMapping, kAccess, kLiteral, kBinary, kCall, kOther, kindOf, exprsFrom, initsFrom, binOpOf, exprAs, exprAt, second, nameIn, contractAt}
-use Rattle.rules.specs.Refusal.{Refusal, Res, refused, numberOf, placeOf}
+use Rattle.rules.specs.Refusal.{Refusal, refused, numberOf, placeOf}
 use Rattle.rules.specs.Builtins.{Builtin, builtin}
 use Rattle.rules.specs.Layout.{offset}
 use Rattle.rules.specs.Emit.{Scope, opcode, add, At-reg, arg}
 use Rattle.emit.specs.declared.St.{St}
 use Rattle.emit.specs.declared.Rules.{Rules}
-use Rattle.emit.specs.Steps.{Out, Regs, _>>=_, done, at, gen, gens, gen-inits, gen-call}
-use Rattle.emit.specs.Ran.{raw, Ran}
-use Rattle.emit.specs.State.{rulesOf, tally, moved, Takes, Emits, News}
+use Rattle.emit.specs.Steps.{_>>=_, done, at, gen, gens, gen-inits, gen-call}
+use Rattle.emit.specs.Ran.{raw}
+use Rattle.emit.specs.State.{rulesOf, moved, Takes, Emits, News}
 use Rattle.emit.specs.Refines.{seq, still, renewed, unheard}
 use Rattle.emit.specs.Leaves.{ends-at}
 use Rattle.expr.specs.declared.Slot.{Slot}
-use Rattle.expr.specs.declared.steps.Value.{Value}
 use Rattle.expr.specs.declared.steps.Several.{Several}
 use Rattle.expr.specs.Names.{functionIn}
 use Rattle.expr.specs.Steps.{Finds, Slots}
-use Rattle.expr.specs.Values.{valueOf, valuesIn, Ends, Says, CallEnds, pushed, numbered, combined, mapping-read, literal-end}
-use Rattle.expr.specs.Made.{Gives, Made, Gathers, Argued, Inited, argsAt, Called, Asked}
-use Rattle.expr.proofs.Values.{values-none, values-more}
+use Rattle.expr.specs.Values.{regsIn, regsOf, Ends, Says, CallEnds, pushed, numbered, combined, mapping-read, literal-end}
+use Rattle.expr.specs.Made.{Gives, Made, Argued, Inited, argsAt, Called, Asked}
+use Rattle.expr.proofs.Values.{length-regsOf, reg-of, argued-is, stored-is}
 use Rattle.expr.proofs.Chain.{is-small, heap-copy}
-use Rattle.expr.proofs.Fields.{any-place}
 
 -- What stands at a place, by its kind.
 pub at-zero : (d : ℕ) (img : List ℕ) (i : ℕ) → d ≡ 0 → exprAt d img i ≡ Expr.no-expr i
@@ -82,60 +79,12 @@ module _ (R : Rules) (C : Contract) (f : ℕ → Expr) (img : List ℕ) (sc : Sc
   unfolding gen-inits initsFrom
   inits-more i p e h l = let q : 64 - i ≡ suc (64 - (i + 1)) = omega (arith, h) in rw q (simp (lt-ltb _ _ l))
 
-pub gather-none : (img : List ℕ) (st : St) (c a : List ℕ) (i : ℕ) (m : Res (Out Regs)) → i ≤ 64 → m ≡ done (record { regs = []; next = st .next })
-    → Gathers img st c (record { st = st; count = i }) c a a i m
-gather-none img st c a i m l e = record {
-  ran = rw e (still (raw (contractAt img)) refl (ap (λ (l : List At-reg). record { regs = l; next = st .next }) (values-none a i i (omega arith))));
-  before = λ j h. refl;
-  from = omega arith;
-  upto = l;
-}
+-- a register and the next free one that were kept
+kept : (vals : List At-reg) (rs : List ℕ) (j x n : ℕ) → regsOf vals ≡ rs → x ≡ getD rs j 0 → n ≡ arg j vals .next → at x n ≡ arg j vals
+kept vals rs j x n e f g = λ i. at ((f ∙ sym (ap (λ (l : List ℕ). getD l j 0) e) ∙ reg-of vals j) i) (g i)
 
--- the value that was kept
-module _ (a a1 : List ℕ) (i r n : ℕ) (long : i < 64) (room : length a ≡ 128) (e : a1 ≡ set (set a (2 * i) r) (2 * i + 1) n) where
-  reg-kept : getD a1 (2 * i) 0 ≡ r
-  reg-kept =
-      ap (λ (l : List ℕ). getD l (2 * i) 0) e
-      ∙ getD-set-other (set a (2 * i) r) (2 * i + 1) (2 * i) n 0 (λ z. omega (arith, z))
-      ∙ getD-set-same a (2 * i) r 0 (omega (arith, long, room))
-
-  next-kept : getD a1 (2 * i + 1) 0 ≡ n
-  next-kept = ap (λ (l : List ℕ). getD l (2 * i + 1) 0) e ∙ getD-set-same (set a (2 * i) r) (2 * i + 1) n 0 (rw (length-set a (2 * i) r) (omega (arith, long, room)))
-
-  others-kept : (j : ℕ) → j < 2 * i → getD a1 j 0 ≡ getD a j 0
-  others-kept j h =
-      ap (λ (l : List ℕ). getD l j 0) e
-      ∙ getD-set-other (set a (2 * i) r) (2 * i + 1) j n 0 (λ z. omega (arith, z, h))
-      ∙ getD-set-other a (2 * i) j r 0 (λ z. omega (arith, z, h))
-
-pub gather-more : (img : List ℕ) (st b : St) {c c1 c2 : List ℕ} (r : Several) (a a1 a2 : List ℕ) (i : ℕ) (m : Res (Out At-reg)) (k : ℕ → Res (Out Regs)) (w : Res (Out Regs))
-    → w ≡ (m >>= λ v. k (v .next) >>= λ vs. done (record { regs = v ∷ vs .regs; next = vs .next }))
-    → i < 64 → length a ≡ 128 → b .reg < 256 → Gives img st c b c1 m → a1 ≡ set (set a (2 * i) (b .reg)) (2 * i + 1) (b .next)
-    → Gathers img b c1 r c2 a1 a2 (i + 1) (k (b .next)) → Gathers img st c r c2 a a2 i w
-gather-more img st b {c} {c1} {c2} r a a1 a2 i m k w f long room small h e g = record {
-  ran = rw f (seq (raw (contractAt img)) _ h (seq (raw (contractAt img)) _ (g .ran) (still (raw (contractAt img)) refl (ap (λ (x : List At-reg). record { regs = x; next = r .st .next }) listed))));
-  before = λ j y. g .before j (omega (arith, y)) ∙ others-kept a a1 i (b .reg) (b .next) long room e j y;
-  from = omega (arith, g .from);
-  upto = g .upto;
-}
-  where
-    cell : getD a2 (2 * i) 0 % 256 ≡ b .reg
-    cell =
-        let x : getD a2 (2 * i) 0 ≡ b .reg = g .before (2 * i) (omega arith) ∙ reg-kept a a1 i (b .reg) (b .next) long room e in
-        omega (arith, x, small)
-
-    after : getD a2 (2 * i + 1) 0 ≡ b .next
-    after = g .before (2 * i + 1) (omega arith) ∙ next-kept a a1 i (b .reg) (b .next) long room e
-
-    listed : valuesIn a2 i (r .count - i) ≡ at (b .reg) (b .next) ∷ valuesIn a2 (i + 1) (r .count - (i + 1))
-    listed = values-more a2 i (r .count) (omega (arith, g .from)) ∙ ap (λ (v : At-reg). v ∷ valuesIn a2 (i + 1) (r .count - (i + 1))) (λ j. at (cell j) (after j))
-
--- all of them
-pub gathered : {img : List ℕ} {st : St} {c c' a a' : List ℕ} {r : Several} {m : Res (Out Regs)} → Gathers img st c r c' a a' 0 m
-    → Ran (raw (contractAt img)) (tally st) c (tally (r .st)) c' (record { regs = valuesIn a' 0 (r .count); next = r .st .next }) m
-gathered {img} {st} {c} {c'} {a} {a'} {r} {m} g =
-    let e : r .count - 0 ≡ r .count = omega arith in
-    subst (λ (k : ℕ). Ran (raw (contractAt img)) (tally st) c (tally (r .st)) c' (record { regs = valuesIn a' 0 k; next = r .st .next }) m) e (g .ran)
+kept-reg : (vals : List At-reg) (rs : List ℕ) (j x : ℕ) → regsOf vals ≡ rs → x ≡ getD rs j 0 → x ≡ arg j vals .reg
+kept-reg vals rs j x e f = f ∙ sym (ap (λ (l : List ℕ). getD l j 0) e) ∙ reg-of vals j
 
 module _ (img scope : List ℕ) (R : Rules) where
   abbrev C : Contract
@@ -179,10 +128,10 @@ module _ (img scope : List ℕ) (R : Rules) where
   unfolding exprAs gen
   binary-value st a b r c c1 c2 c3 d i x y z o e f g h p q s = seq (raw C) _ (rw e at p) (seq (raw C) _ (rw (g, f, e) at q) (rw (h, f, e) at (s C)))
 
-  pub field-value : (st a r : St) (c c1 c2 : List ℕ) (d i x y k : ℕ) → x ≡ inside img i → y ≡ after img x → k ≡ offset C 0 (nameAt img y)
+  pub field-value : (st a r : St) (c c1 c2 : List ℕ) (d i x y k : ℕ) → x ≡ inside img i → y ≡ after img x → ((q : ℕ) → k ≡ offset C q (nameAt img y))
       → Made img scope R st c a c1 (exprAt d img x) → News R a c1 i op.Load (a .reg) 0 k r c2 → Made img scope R st c r c2 (exprAs kAccess (exprAt d img) img i)
   unfolding exprAs gen
-  field-value st a r c c1 c2 d i x y k e f g p q = seq (raw C) _ (rw e at p) (rw (g, f, e, any-place img (nameAt img (second img i)) 0 i) at (q .ran C))
+  field-value st a r c c1 c2 d i x y k e f g p q = seq (raw C) _ (rw e at p) (rw (g i, f, e) at (q .ran C))
 
   pub mapping-value : (st a r : St) (s : Slot) (c c1 c2 : List ℕ) (d i x y : ℕ) → x ≡ inside img i → y ≡ after img x → Slots img x 47 i st s
       → Made img scope R (s .st) c a c1 (exprAt d img y) → Ends a c1 r c2 (mapping-read R i (s .slot) (a .reg) (a .next)) → Made img scope R st c r c2 (exprAs kMapping (exprAt d img) img i)
@@ -191,46 +140,48 @@ module _ (img scope : List ℕ) (R : Rules) where
       let h : Slots img (inside img i) 47 i st s = rw e at g in
       seq (raw C) _ (h .ran (rulesOf R) c (Refusal.mapping-unread i (nameIn img i)) refl refl (λ z. omega (arith, z))) (seq (raw C) _ (rw (f, e, h .next) at p) (q C))
 
-  pub literal-value : (st q r : St) (v : Several) (c c1 c2 c3 a a' : List ℕ) (d i h x y l : ℕ) → h ≡ suc (R .free) % 256 → l ≡ second img i → x ≡ inside img l → y ≡ after img l → News R st c i op.Add h 0 0 q c1
-      → Inited img scope R q c1 v c2 a a' 0 (initsFrom 64 (exprAt d img) img x y) → Ends (v .st) c2 r c3 (literal-end R i (st .next) (q .reg) (valuesIn a' 0 (v .count)) (v .st .next))
+  pub literal-value : (st q r : St) (v : Several) (c c1 c2 c3 a : List ℕ) (d i h x y l : ℕ) → h ≡ suc (R .free) % 256 → l ≡ second img i → x ≡ inside img l → y ≡ after img l → News R st c i op.Add h 0 0 q c1
+      → Inited img scope R q c1 v c2 a (initsFrom 64 (exprAt d img) img x y) → Ends (v .st) c2 r c3 (literal-end R i (st .next) (q .reg) (regsIn a 0 (v .count)) (v .st .next))
       → Made img scope R st c r c3 (exprAs kLiteral (exprAt d img) img i)
   unfolding exprAs gen
-  literal-value st q r v c c1 c2 c3 a a' d i h x y l u e f g n p s =
-      renewed (raw C) _ _ _ (n .any C (λ z. add i z (suc (R .free)) 0) (λ z. heap-copy C i h (R .free) z u)) (seq (raw C) _ (rw (f, g, e, n .next) at (gathered p)) (s C))
+  literal-value st q r v c c1 c2 c3 a d i h x y l u e f g n p s =
+      renewed (raw C) _ _ _ (n .any C (λ z. add i z (suc (R .free)) 0) (λ z. heap-copy C i h (R .free) z u))
+      (seq (raw C) _ (rw (f, g, e, n .next) at (p .ran)) (rw (← p .regs, stored-is i (q .reg) 0 (p .vals), length-regsOf (p .vals)) at (s C)))
 
   -- Calls
-  pub args-at : (st : St) (v : Several) (c c' a a' : List ℕ) (d i x y l : ℕ) → l ≡ second img i → x ≡ inside img l → y ≡ after img l
-      → Argued img scope R st c v c' a a' 0 (exprsFrom 64 (exprAt d img) img x y) → Argued img scope R st c v c' a a' 0 (argsAt d img i)
-  args-at st v c c' a a' d i x y l e f g p = rw (f, g, e) at p
+  pub args-at : (st : St) (v : Several) (c c' a : List ℕ) (d i x y l : ℕ) → l ≡ second img i → x ≡ inside img l → y ≡ after img l
+      → Argued img scope R st c v c' a (exprsFrom 64 (exprAt d img) img x y) → Argued img scope R st c v c' a (argsAt d img i)
+  args-at st v c c' a d i x y l e f g p = rw (f, g, e) at p
 
-  pub poseidon-value : (st r : St) (v : Several) (c c1 c2 a a' : List ℕ) (d i : ℕ) (x y : Value) → Argued img scope R st c v c1 a a' 0 (argsAt d img i)
-      → valueOf x ≡ arg 0 (valuesIn a' 0 (v .count)) → valueOf y ≡ arg 1 (valuesIn a' 0 (v .count)) → Ends (v .st) c1 r c2 (combined R i (st .next) (valueOf x) (valueOf y) op.Poseidon)
+  pub poseidon-value : (st r : St) (v : Several) (c c1 c2 a : List ℕ) (d i x y : ℕ) → Argued img scope R st c v c1 a (argsAt d img i)
+      → x ≡ getD (regsIn a 0 (v .count)) 0 0 → y ≡ getD (regsIn a 0 (v .count)) 1 0 → Ends (v .st) c1 r c2 (combined R i (st .next) (at x (v .first)) (at y (v .second)) op.Poseidon)
       → Called img scope R st c r c2 i d (some Builtin.poseidon)
   unfolding gen-call
-  poseidon-value st r v c c1 c2 a a' d i x y p e f q = seq (raw C) _ (gathered p)
-      (subst (λ (z : At-reg). Gives img (v .st) c1 r c2 (combined R i (st .next) (arg 0 (valuesIn a' 0 (v .count))) z op.Poseidon C)) f
-      (subst (λ (z : At-reg). Gives img (v .st) c1 r c2 (combined R i (st .next) z (valueOf y) op.Poseidon C)) e (q C)))
+  poseidon-value st r v c c1 c2 a d i x y p e f q = seq (raw C) _ (p .ran)
+      (subst (λ (z : At-reg). Gives img (v .st) c1 r c2 (combined R i (st .next) (arg 0 (p .vals)) z op.Poseidon C)) (kept (p .vals) _ 1 y (v .second) (p .regs) f (p .second))
+      (subst (λ (z : At-reg). Gives img (v .st) c1 r c2 (combined R i (st .next) z (at y (v .second)) op.Poseidon C)) (kept (p .vals) _ 0 x (v .first) (p .regs) e (p .first)) (q C)))
 
-  pub merkle-value : (st r : St) (v : Several) (c c1 c2 a a' : List ℕ) (d i k : ℕ) (x y z : Value) → Argued img scope R st c v c1 a a' 0 (argsAt d img i)
-      → valueOf x ≡ arg 0 (valuesIn a' 0 (v .count)) → valueOf y ≡ arg 1 (valuesIn a' 0 (v .count)) → valueOf z ≡ arg 2 (valuesIn a' 0 (v .count)) → k ≡ z .reg
-      → News R (v .st) c1 i op.VerifyMerkle (x .reg) (y .reg) k r c2 → Called img scope R st c r c2 i d (some Builtin.merkle)
+  pub merkle-value : (st r : St) (v : Several) (c c1 c2 a : List ℕ) (d i k x y z : ℕ) → Argued img scope R st c v c1 a (argsAt d img i)
+      → x ≡ getD (regsIn a 0 (v .count)) 0 0 → y ≡ getD (regsIn a 0 (v .count)) 1 0 → z ≡ getD (regsIn a 0 (v .count)) 2 0 → k ≡ z
+      → News R (v .st) c1 i op.VerifyMerkle x y k r c2 → Called img scope R st c r c2 i d (some Builtin.merkle)
   unfolding gen-call
-  merkle-value st r v c c1 c2 a a' d i k x y z p e f g h q =
-      let ex = ap (λ (w : At-reg). w .reg) e in
-      let ey = ap (λ (w : At-reg). w .reg) f in
-      let ez = h ∙ ap (λ (w : At-reg). w .reg) g in
-      seq (raw C) _ (gathered p) (rw (ex, ey, ez) at (q .ran C))
+  merkle-value st r v c c1 c2 a d i k x y z p e f g h q =
+      let ex = kept-reg (p .vals) _ 0 x (p .regs) e in
+      let ey = kept-reg (p .vals) _ 1 y (p .regs) f in
+      let ez = h ∙ kept-reg (p .vals) _ 2 z (p .regs) g in
+      seq (raw C) _ (p .ran) (rw (ex, ey, ez) at (q .ran C))
 
-  pub asked-value : (st w r : St) (v : Several) (c c1 b b' a a' : List ℕ) (d i k : ℕ) → Argued img scope R st b v b' a a' 0 (argsAt d img i)
+  pub asked-value : (st w r : St) (v : Several) (c c1 b b' a : List ℕ) (d i k : ℕ) → Argued img scope R st b v b' a (argsAt d img i)
       → w ≡ record { next = st .next; reg = st .reg; err = v .st .err; place = v .st .place; n = st .n; base = st .base } → News R w c i op.Syscall 0 0 k r c1 → Asked img scope R st c r c1 i d k
-  asked-value st w r v c c1 b b' a a' d i k p e q =
-      seq (raw C) _ (unheard (raw C) _ (gathered p) (ap (λ (s : St). s .err) e) (ap (λ (s : St). s .place) e) (ap (λ (s : St). s .n) e) (ap (λ (s : St). s .base) e))
+  asked-value st w r v c c1 b b' a d i k p e q =
+      seq (raw C) _ (unheard (raw C) _ (p .ran) (ap (λ (s : St). s .err) e) (ap (λ (s : St). s .place) e) (ap (λ (s : St). s .n) e) (ap (λ (s : St). s .base) e))
       (rw (ap (λ (s : St). s .next) e) at (q .ran C))
 
-  pub user-value : (st b r : St) (v : Several) (c c1 c2 c3 a a' : List ℕ) (d i k x g : ℕ) → k ≡ st .next - 1 → Says st c b c1 (pushed 1 k) → Argued img scope R b c1 v c2 a a' 0 (argsAt d img i)
-      → x ≡ inside img i → g ≡ functionIn img (nameAt img x) → CallEnds (v .st) c2 r c3 R i (st .next) (valuesIn a' 0 (v .count)) g → Called img scope R st c r c3 i d none
+  pub user-value : (st b r : St) (v : Several) (c c1 c2 c3 a : List ℕ) (d i k x g : ℕ) → k ≡ st .next - 1 → Says st c b c1 (pushed 1 k) → Argued img scope R b c1 v c2 a (argsAt d img i)
+      → x ≡ inside img i → g ≡ functionIn img (nameAt img x) → CallEnds (v .st) c2 r c3 R i (st .next) (regsIn a 0 (v .count)) g → Called img scope R st c r c3 i d none
   unfolding gen-call
-  user-value st b r v c c1 c2 c3 a a' d i k x g e s p f h q = seq (raw C) _ (rw e at (s .ran C i)) (seq (raw C) _ (rw (s .next) at (gathered p)) (q C (nameIn img i) (rw f at h)))
+  user-value st b r v c c1 c2 c3 a d i k x g e s p f h q =
+      seq (raw C) _ (rw e at (s .ran C i)) (seq (raw C) _ (rw (s .next) at (p .ran)) (rw (← p .regs, argued-is i (p .vals)) at (q C (nameIn img i) (rw f at h))))
 
   pub call-value : (st r : St) (c c' : List ℕ) (d i x : ℕ) (b : Option Builtin) → x ≡ inside img i → b ≡ builtin (nameAt img x) → Called img scope R st c r c' i d b → Made img scope R st c r c' (exprAs kCall (exprAt d img) img i)
   unfolding exprAs gen

@@ -3,8 +3,7 @@
 use mathlib.Core.Path.{_≡_}
 use mathlib.Core.List.{List, [], _∷_}
 use mathlib.Core.Option.{Option}
-use Prim.Native.Nat.{ℕ, suc, _+_, _-_, _*_, _≤_, _<_}
-use lib.ListN.{getD}
+use Prim.Native.Nat.{ℕ, suc, _≤_}
 use Rattle.isa.specs.declared.Opcode.the-variants as op
 use Rattle.rules.specs.Bytes.{inside, after}
 use Rattle.rules.specs.Tree.{Expr, Exprs, Inits}
@@ -12,7 +11,7 @@ use Rattle.rules.specs.Read.{Kind, kIdent, exprAs, exprAt, exprsFrom, second, n
 use Rattle.rules.specs.Refusal.{Res}
 use Rattle.rules.specs.Builtins.{Builtin}
 use Rattle.rules.specs.Machine.{Imm}
-use Rattle.rules.specs.Emit.{At-reg, emit}
+use Rattle.rules.specs.Emit.{At-reg, arg, emit}
 use Rattle.rules.specs.Generate.{alloc-reg}
 use Rattle.emit.specs.declared.St.{St}
 use Rattle.emit.specs.declared.Rules.{Rules}
@@ -21,7 +20,7 @@ use Rattle.emit.specs.Ran.{raw, Ran}
 use Rattle.emit.specs.State.{rulesOf, tally}
 use Rattle.expr.specs.declared.steps.Several.{Several}
 use Rattle.expr.specs.Scope.{scopeIn}
-use Rattle.expr.specs.Values.{valuesIn}
+use Rattle.expr.specs.Values.{regsIn, regsOf}
 
 -- Code that ends with a value, over an image's contract.
 abbrev pub Gives : (img : List ℕ) (st : St) (c : List ℕ) (r : St) (c' : List ℕ) → Res (Out At-reg) → Type 0
@@ -31,19 +30,21 @@ Gives img st c r c' m = Ran (raw (contractAt img)) (tally st) c (tally r) c' (at
 abbrev pub Made : (img scope : List ℕ) → Rules → (st : St) (c : List ℕ) (r : St) (c' : List ℕ) → Expr → Type 0
 Made img scope R st c r c' e = Gives img st c r c' (gen (rulesOf R) (contractAt img) e (scopeIn img scope) (st .next))
 
--- Several values, kept from number i on; those before stay.
-pub record Gathers (img : List ℕ) (st : St) (c : List ℕ) (r : Several) (c' : List ℕ) (a a' : List ℕ) (i : ℕ) (m : Res (Out Regs)) : Type 0 where
-  pub ran : Ran (raw (contractAt img)) (tally st) c (tally (r .st)) c' (record { regs = valuesIn a' i (r .count - i); next = r .st .next }) m
-  pub before : (j : ℕ) → j < 2 * i → getD a' j 0 ≡ getD a j 0
-  pub from : i ≤ r .count
+-- Several values: what is kept of them is the register of each, and the next free register behind the first two.
+pub record Gathers (img : List ℕ) (st : St) (c : List ℕ) (r : Several) (c' a : List ℕ) (m : Res (Out Regs)) : Type 0 where
+  pub vals : List At-reg
+  pub ran : Ran (raw (contractAt img)) (tally st) c (tally (r .st)) c' (record { regs = vals; next = r .st .next }) m
+  pub regs : regsOf vals ≡ regsIn a 0 (r .count)
+  pub first : r .first ≡ arg 0 vals .next
+  pub second : r .second ≡ arg 1 vals .next
   pub upto : r .count ≤ 64
 
 -- Arguments, and the values of a literal.
-abbrev pub Argued : (img scope : List ℕ) → Rules → (st : St) (c : List ℕ) (r : Several) (c' a a' : List ℕ) (i : ℕ) → Exprs → Type 0
-Argued img scope R st c r c' a a' i es = Gathers img st c r c' a a' i (gens (rulesOf R) (contractAt img) es (scopeIn img scope) (st .next))
+abbrev pub Argued : (img scope : List ℕ) → Rules → (st : St) (c : List ℕ) (r : Several) (c' a : List ℕ) → Exprs → Type 0
+Argued img scope R st c r c' a es = Gathers img st c r c' a (gens (rulesOf R) (contractAt img) es (scopeIn img scope) (st .next))
 
-abbrev pub Inited : (img scope : List ℕ) → Rules → (st : St) (c : List ℕ) (r : Several) (c' a a' : List ℕ) (i : ℕ) → Inits → Type 0
-Inited img scope R st c r c' a a' i is = Gathers img st c r c' a a' i (gen-inits (rulesOf R) (contractAt img) is (scopeIn img scope) (st .next))
+abbrev pub Inited : (img scope : List ℕ) → Rules → (st : St) (c : List ℕ) (r : Several) (c' a : List ℕ) → Inits → Type 0
+Inited img scope R st c r c' a is = Gathers img st c r c' a (gen-inits (rulesOf R) (contractAt img) is (scopeIn img scope) (st .next))
 
 -- The arguments of the Call at `i`.
 abbrev pub argsAt : ℕ → List ℕ → ℕ → Exprs

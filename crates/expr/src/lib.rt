@@ -5,7 +5,6 @@
 ghost use mathlib.Core.Path.{_≡_};
 ghost use mathlib.Core.List.{List};
 ghost use mathlib.Core.Option.{none, some};
-ghost use Prim.Native.Nat.{ℕ, _-_, _≤_};
 ghost use lib.ListN.{length};
 ghost use Rattle.rules.specs.Tree.{Expr};
 ghost use Rattle.rules.specs.Read.{exprAt, exprAs, exprsFrom, initsFrom, kInt, kIdent, kStorage, kMapping, kAccess, kLiteral, kBinary, kCall};
@@ -158,7 +157,7 @@ fn gen_field(
 {
     let base = records::body(img, place);
     let a = gen_expr(code, img, tables, scope, rules, depth, base, st);
-    let offset = names::field_offset(img, tables, records::past(img, base));
+    let offset = fields::field_offset(img, tables, records::past(img, base));
     emit::emit_new(code, rules, a, place, Opcode::Load, a.reg, 0, offset)
 }
 
@@ -191,45 +190,36 @@ fn gen_mapping(
     steps::read_mapping(code, rules, a, place, s.slot)
 }
 
-// 000: the values of a StructLiteral, from the record at p to e, number i to 63 at most
+// 000: the values of a StructLiteral, from the record at `first` to e, 64 at most
 fn gen_inits(
     code: &mut [u64],
-    vals: &mut [u64; 128],
+    vals: &mut [u8; 64],
     img: &[u8],
     tables: &[usize],
     scope: &[usize],
     rules: Rules,
     depth: usize,
-    p: usize,
+    first: usize,
     e: usize,
-    i: usize,
     st: St,
 ) -> Several
-    requires { ⌜ Tabled (now img) (now tables) × ((i ≤ 64) × (length (now vals) ≡ 128)) ⌝ }
-    ensures { λ r. ⌜ Inited (now (img .entry)) (now (scope .entry)) rules st (now (code .entry)) r (now (code .exit)) (now (vals .entry)) (now (vals .exit)) i (initsFrom (64 - i) (exprAt depth (now (img .entry))) (now (img .entry)) p e) ⌝ }
+    requires { ⌜ Tabled (now img) (now tables) × (length (now vals) ≡ 64) ⌝ }
+    ensures { λ r. ⌜ Inited (now (img .entry)) (now (scope .entry)) rules st (now (code .entry)) r (now (code .exit)) (now (vals .exit)) (initsFrom 64 (exprAt depth (now (img .entry))) (now (img .entry)) first e) ⌝ }
 {
-    if 64 <= i {
-        return Several { st, count: i };
+    let mut p = first;
+    let mut v = Several {
+        st,
+        count: 0,
+        first: 0,
+        second: 0,
+    };
+    while v.count < 64 && p < e {
+        let value = records::past(img, records::body(img, p));
+        let a = gen_expr(code, img, tables, scope, rules, depth, value, v.st);
+        v = steps::keep(vals, v, a);
+        p = records::past(img, p);
     }
-    if e <= p {
-        return Several { st, count: i };
-    }
-    let value = records::past(img, records::body(img, p));
-    let a = gen_expr(code, img, tables, scope, rules, depth, value, st);
-    steps::keep(vals, i, a);
-    gen_inits(
-        code,
-        vals,
-        img,
-        tables,
-        scope,
-        rules,
-        depth,
-        records::past(img, p),
-        e,
-        i + 1,
-        a,
-    )
+    v
 }
 
 // 000: generate_expr, StructLiteral
@@ -250,67 +240,46 @@ fn gen_literal(
     let p = records::body(img, list);
     let e = records::past(img, list);
     let q = emit::emit_new(code, rules, st, place, Opcode::Add, emit::heap(rules), 0, 0);
-    let mut vals = [0u64; 128];
-    let v = gen_inits(
-        code,
-        &mut vals,
-        img,
-        tables,
-        scope,
-        rules,
-        depth,
-        p,
-        e,
-        0,
-        q,
-    );
+    let mut vals = [0u8; 64];
+    let v = gen_inits(code, &mut vals, img, tables, scope, rules, depth, p, e, q);
     steps::close_literal(code, &vals, rules, v, place, st.next, q.reg)
 }
 
-// 000: the arguments of a Call, from the record at p to e, number i to 63 at most
+// 000: the arguments of a Call, from the record at `first` to e, 64 at most
 fn gen_args(
     code: &mut [u64],
-    vals: &mut [u64; 128],
+    vals: &mut [u8; 64],
     img: &[u8],
     tables: &[usize],
     scope: &[usize],
     rules: Rules,
     depth: usize,
-    p: usize,
+    first: usize,
     e: usize,
-    i: usize,
     st: St,
 ) -> Several
-    requires { ⌜ Tabled (now img) (now tables) × ((i ≤ 64) × (length (now vals) ≡ 128)) ⌝ }
-    ensures { λ r. ⌜ Argued (now (img .entry)) (now (scope .entry)) rules st (now (code .entry)) r (now (code .exit)) (now (vals .entry)) (now (vals .exit)) i (exprsFrom (64 - i) (exprAt depth (now (img .entry))) (now (img .entry)) p e) ⌝ }
+    requires { ⌜ Tabled (now img) (now tables) × (length (now vals) ≡ 64) ⌝ }
+    ensures { λ r. ⌜ Argued (now (img .entry)) (now (scope .entry)) rules st (now (code .entry)) r (now (code .exit)) (now (vals .exit)) (exprsFrom 64 (exprAt depth (now (img .entry))) (now (img .entry)) first e) ⌝ }
 {
-    if 64 <= i {
-        return Several { st, count: i };
+    let mut p = first;
+    let mut v = Several {
+        st,
+        count: 0,
+        first: 0,
+        second: 0,
+    };
+    while v.count < 64 && p < e {
+        let a = gen_expr(code, img, tables, scope, rules, depth, p, v.st);
+        v = steps::keep(vals, v, a);
+        p = records::past(img, p);
     }
-    if e <= p {
-        return Several { st, count: i };
-    }
-    let a = gen_expr(code, img, tables, scope, rules, depth, p, st);
-    steps::keep(vals, i, a);
-    gen_args(
-        code,
-        vals,
-        img,
-        tables,
-        scope,
-        rules,
-        depth,
-        records::past(img, p),
-        e,
-        i + 1,
-        a,
-    )
+    v
 }
 
 // The arguments of the Call at `place`: the List behind its Name.
 fn gen_list(
     code: &mut [u64],
-    vals: &mut [u64; 128],
+    vals: &mut [u8; 64],
     img: &[u8],
     tables: &[usize],
     scope: &[usize],
@@ -319,13 +288,13 @@ fn gen_list(
     place: usize,
     st: St,
 ) -> Several
-    requires { ⌜ Tabled (now img) (now tables) × (length (now vals) ≡ 128) ⌝ }
-    ensures { λ r. ⌜ Argued (now (img .entry)) (now (scope .entry)) rules st (now (code .entry)) r (now (code .exit)) (now (vals .entry)) (now (vals .exit)) 0 (argsAt depth (now (img .entry)) place) ⌝ }
+    requires { ⌜ Tabled (now img) (now tables) × (length (now vals) ≡ 64) ⌝ }
+    ensures { λ r. ⌜ Argued (now (img .entry)) (now (scope .entry)) rules st (now (code .entry)) r (now (code .exit)) (now (vals .exit)) (argsAt depth (now (img .entry)) place) ⌝ }
 {
     let list = records::past(img, records::body(img, place));
     let p = records::body(img, list);
     let e = records::past(img, list);
-    gen_args(code, vals, img, tables, scope, rules, depth, p, e, 0, st)
+    gen_args(code, vals, img, tables, scope, rules, depth, p, e, st)
 }
 
 // 000: generate_expr, poseidon
@@ -342,10 +311,16 @@ fn gen_poseidon(
     requires { ⌜ Tabled (now img) (now tables) ⌝ }
     ensures { λ r. ⌜ Called (now (img .entry)) (now (scope .entry)) rules st (now (code .entry)) r (now (code .exit)) place depth (some Known.poseidon) ⌝ }
 {
-    let mut vals = [0u64; 128];
+    let mut vals = [0u8; 64];
     let v = gen_list(code, &mut vals, img, tables, scope, rules, depth, place, st);
-    let l = steps::value_at(&vals, 0, v.count);
-    let r = steps::value_at(&vals, 1, v.count);
+    let l = Value {
+        reg: steps::reg_at(&vals, 0, v.count),
+        next: v.first,
+    };
+    let r = Value {
+        reg: steps::reg_at(&vals, 1, v.count),
+        next: v.second,
+    };
     steps::combine(code, rules, v.st, place, st.next, l, r, Opcode::Poseidon)
 }
 
@@ -363,20 +338,20 @@ fn gen_merkle(
     requires { ⌜ Tabled (now img) (now tables) ⌝ }
     ensures { λ r. ⌜ Called (now (img .entry)) (now (scope .entry)) rules st (now (code .entry)) r (now (code .exit)) place depth (some Known.merkle) ⌝ }
 {
-    let mut vals = [0u64; 128];
+    let mut vals = [0u8; 64];
     let v = gen_list(code, &mut vals, img, tables, scope, rules, depth, place, st);
-    let root = steps::value_at(&vals, 0, v.count);
-    let leaf = steps::value_at(&vals, 1, v.count);
-    let path = steps::value_at(&vals, 2, v.count);
-    let imm = emit::wide(path.reg);
+    let root = steps::reg_at(&vals, 0, v.count);
+    let leaf = steps::reg_at(&vals, 1, v.count);
+    let path = steps::reg_at(&vals, 2, v.count);
+    let imm = emit::wide(path);
     emit::emit_new(
         code,
         rules,
         v.st,
         place,
         Opcode::VerifyMerkle,
-        root.reg,
-        leaf.reg,
+        root,
+        leaf,
         imm,
     )
 }
@@ -397,7 +372,7 @@ fn gen_syscall(
     ensures { λ r. ⌜ Asked (now (img .entry)) (now (scope .entry)) rules st (now (code .entry)) r (now (code .exit)) place depth number ⌝ }
 {
     let mut nowhere = [0u64; 1];
-    let mut vals = [0u64; 128];
+    let mut vals = [0u8; 64];
     let v = gen_list(
         &mut nowhere,
         &mut vals,
@@ -427,8 +402,8 @@ fn gen_user(
     requires { ⌜ Tabled (now img) (now tables) ⌝ }
     ensures { λ r. ⌜ Called (now (img .entry)) (now (scope .entry)) rules st (now (code .entry)) r (now (code .exit)) place depth (none) ⌝ }
 {
-    let a = steps::push_up(code, st, 1, steps::less_one(st.next));
-    let mut vals = [0u64; 128];
+    let a = steps::push_up(code, st, steps::less_one(st.next));
+    let mut vals = [0u8; 64];
     let v = gen_list(code, &mut vals, img, tables, scope, rules, depth, place, a);
     let f = names::function_index(img, tables, records::body(img, place));
     steps::close_call(code, &vals, rules, v, place, st.next, f)

@@ -1,8 +1,9 @@
-// What a name stands for: a register of the scope, a function, a field's offset, a builtin.
+// What a name stands for: a register of the scope, a function, a builtin.
 //
 // The scope is a lent array of numbers: the count of names (512 at most), then three cells for each: its key, the place of its Name,
 // its register. The newest of a name counts.
 ghost use mathlib.Core.Path.{_≡_};
+ghost use mathlib.Core.Bool.{false};
 ghost use mathlib.Core.List.{List};
 ghost use Prim.Native.Nat.{ℕ, _+_, _*_, _%_, _<_, _≤_, min};
 ghost use lib.ListN.{length, getD};
@@ -10,11 +11,10 @@ ghost use Rattle.rules.specs.Bytes.{nameAt};
 ghost use Rattle.rules.specs.Tree.{Expr};
 ghost use Rattle.rules.specs.Builtins.{builtin};
 ghost use Rattle.rules.specs.Emit.{find};
-ghost use Rattle.rules.specs.Layout.{offset};
 ghost use Rattle.rules.specs.Read.{contractAt};
-ghost use Rattle.tables.specs.Listed.{Tabled, structsIn};
+ghost use Rattle.tables.specs.Listed.{Tabled};
 ghost use Rattle.expr.specs.Scope.{scopeIn};
-ghost use Rattle.expr.specs.Names.{regOf, builtinOf, functionIn, Position, Kept};
+ghost use Rattle.expr.specs.Names.{regOf, Unknown, builtinOf, functionIn};
 use tables::Found;
 
 pub enum Local {
@@ -29,12 +29,6 @@ pub enum Builtin {
     BlockNumber,
     Merkle,
     Nothing,
-}
-
-// Where a field stands in its struct.
-pub enum Spot {
-    At(usize),
-    Nowhere,
 }
 
 // The cell at i, 0 past the end.
@@ -70,7 +64,6 @@ pub fn lookup(img: &[u8], scope: &[usize], x: usize) -> Local
     Local::Missing
 }
 
-// 000: storage.get; where there is none, the refusal
 // 000: func_offsets.get: the last function of the name at x, as its index
 pub fn function_index(img: &[u8], tables: &[usize], x: usize) -> usize
     requires { ⌜ Tabled (now img) (now tables) ⌝ }
@@ -82,10 +75,27 @@ pub fn function_index(img: &[u8], tables: &[usize], x: usize) -> usize
     }
 }
 
+// Whether a name with this key can be one that generate_expr knows: most calls are of others.
+fn may_be_builtin(key: usize) -> bool
+    ensures { λ r. ⌜ (r ≡ false → Unknown key) ⌝ }
+{
+    match key {
+        7957689470423363440 => true, // poseidon
+        8243105117560599405 => true, // msg::sender
+        7305804444525359981 => true, // msg::nonce
+        8243102914930764898 => true, // block::number
+        7381240851469591926 => true, // verify_merkle_proof
+        _ => false,
+    }
+}
+
 // 000: generate_expr, Call: the names that it knows
 pub fn builtin_named(img: &[u8], x: usize) -> Builtin
     ensures { λ r. ⌜ builtinOf r ≡ builtin (nameAt (now (img .entry)) x) ⌝ }
 {
+    if !may_be_builtin(records::name_key(img, x)) {
+        return Builtin::Nothing;
+    }
     if records::is_name(img, x, b"poseidon") {
         return Builtin::Poseidon;
     }
@@ -103,58 +113,3 @@ pub fn builtin_named(img: &[u8], x: usize) -> Builtin
     }
     Builtin::Nothing
 }
-
-// 000: fields.iter().position, in the List of Fields at l
-fn position(img: &[u8], l: usize, x: usize) -> Spot
-    ensures { λ r. ⌜ Position (now (img .entry)) l (nameAt (now (img .entry)) x) r ⌝ }
-{
-    let e = records::past(img, l);
-    let mut p = records::body(img, l);
-    let mut n = 0;
-    while n < 64 && p < e {
-        if records::same_name(img, records::body(img, p), x) {
-            return Spot::At(n);
-        }
-        p = records::past(img, p);
-        n += 1;
-    }
-    Spot::Nowhere
-}
-
-// The same in the struct with index i at p, where no later one has its name (000: struct_layouts).
-fn kept_position(img: &[u8], tables: &[usize], i: usize, p: usize, x: usize) -> Spot
-    requires { ⌜ Tabled (now img) (now tables) × ((i < length (structsIn (now img))) × (p ≡ getD (structsIn (now img)) i 0)) ⌝ }
-    ensures { λ r. ⌜ Kept (now (img .entry)) i (nameAt (now (img .entry)) x) r ⌝ }
-{
-    let name = records::body(img, p);
-    match tables::struct_named(img, tables, name) {
-        Found::At(k, q) => {
-            if k == i {
-                return position(img, records::past(img, name), x);
-            }
-            Spot::Nowhere
-        }
-        Found::Nothing => Spot::Nowhere,
-    }
-}
-
-// 000: generate_expr, FieldAccess: the offset by the first struct that has the field at x
-pub fn field_offset(img: &[u8], tables: &[usize], x: usize) -> u64
-    requires { ⌜ Tabled (now img) (now tables) ⌝ }
-    ensures { λ r. ⌜ r ≡ offset (contractAt (now (img .entry))) 0 (nameAt (now (img .entry)) x) ⌝ }
-{
-    let n = tables::struct_count(tables);
-    let mut i = 0;
-    while i < n {
-        match kept_position(img, tables, i, tables::struct_place(tables, i), x) {
-            Spot::At(k) => return 8 * (k as u64),
-            Spot::Nowhere => {
-                i += 1;
-            }
-        }
-    }
-    0
-}
-
-// 000: generate_expr, Ident
-// 000: generate_expr, StorageRead

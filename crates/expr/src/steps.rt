@@ -1,12 +1,13 @@
 // What an expression does once its parts have run, and the words of a number.
 //
-// The values of a list are kept in an array of numbers, two cells each: the register and the next free one after it.
+// Of the values of a list the registers are kept, in an array; the next free register only behind the first two, for poseidon.
 ghost use mathlib.Core.Path.{_≡_};
-ghost use Prim.Native.Nat.{ℕ, suc, _+_, _-_, _*_, _%_, _<_, _≤_, max};
-ghost use lib.ListN.{length, getD, set};
+ghost use mathlib.Core.Bool.{true};
+ghost use Prim.Native.Nat.{ℕ, suc, _-_, _<_, _≤_, max};
+ghost use lib.ListN.{getD, set};
 ghost use Rattle.rules.specs.Read.{binOpOf};
-ghost use Rattle.rules.specs.Emit.{arg};
-ghost use Rattle.expr.specs.Values.{valueOf, valuesIn, Chooses, Ends, Says, CallEnds, pushed, popped, argued, stored, shifted, chunked, numbered, combined, mapping-read, literal-end};
+ghost use Rattle.rules.specs.Emit.{opcode as opcodeOf};
+ghost use Rattle.expr.specs.Values.{valueOf, regsIn, more, counted, Unseen, Chooses, Ends, Says, CallEnds, pushed, popped, argued, stored, shifted, chunked, numbered, combined, mapping-read, literal-end};
 use emit::Rules;
 use emit::St;
 use isa::Opcode;
@@ -16,46 +17,57 @@ pub struct Value {
     pub next: u64,
 }
 
-// The state behind several values, and how many there are.
+// The state behind several values, how many there are, and the next free register behind the first and the second (0 without one).
 pub struct Several {
     pub st: St,
     pub count: usize,
+    pub first: u64,
+    pub second: u64,
 }
 
-// Value number i is the state's.
-pub fn keep(vals: &mut [u64; 128], i: usize, st: St)
-    requires { ⌜ i < 64 ⌝ }
-    ensures { λ r. ⌜ (now (vals .exit) ≡ set (set (now (vals .entry)) (2 * i) (st .reg)) (2 * i + 1) (st .next)) × (st .reg < 256) ⌝ }
+// One more: the state's.
+pub fn keep(vals: &mut [u8; 64], v: Several, st: St) -> Several
+    requires { ⌜ v .count < 64 ⌝ }
+    ensures { λ r. ⌜ (r ≡ more v st) × (now (vals .exit) ≡ set (now (vals .entry)) (v .count) (st .reg)) ⌝ }
 {
-    vals[2 * i] = emit::wide(st.reg);
-    vals[2 * i + 1] = st.next;
-}
-
-// The register of value number i.
-fn reg_at(vals: &[u64; 128], i: usize) -> u8
-    requires { ⌜ i < 64 ⌝ }
-    ensures { λ r. ⌜ r ≡ getD (now (vals .entry)) (2 * i) 0 % 256 ⌝ }
-{
-    (vals[2 * i] % 256) as u8
-}
-
-// Value number i of count.
-pub fn value_at(vals: &[u64; 128], i: usize, count: usize) -> Value
-    requires { ⌜ count ≤ 64 ⌝ }
-    ensures { λ r. ⌜ valueOf r ≡ arg i (valuesIn (now (vals .entry)) 0 count) ⌝ }
-{
-    if i < count {
-        let reg = reg_at(vals, i);
-        let next = vals[2 * i + 1];
-        Value { reg, next }
-    } else {
-        Value { reg: 0, next: 0 }
+    let i = v.count;
+    vals[i] = st.reg;
+    let count = i + 1;
+    if i == 0 {
+        return Several {
+            st,
+            count,
+            first: st.next,
+            second: v.second,
+        };
     }
+    if i == 1 {
+        return Several {
+            st,
+            count,
+            first: v.first,
+            second: st.next,
+        };
+    }
+    Several {
+        st,
+        count,
+        first: v.first,
+        second: v.second,
+    }
+}
+
+// The register of value number i of count, 0 past the last.
+pub fn reg_at(vals: &[u8; 64], i: usize, count: usize) -> u8
+    requires { ⌜ count ≤ 64 ⌝ }
+    ensures { λ r. ⌜ r ≡ getD (regsIn (now (vals .entry)) 0 count) i 0 ⌝ }
+{
+    if i < count { vals[i] } else { 0 }
 }
 
 // 000: opcode, of a BinOp's byte
 pub fn opcode(op: u64) -> Opcode
-    ensures { λ r. ⌜ r ≡ Rattle.rules.specs.Emit.opcode (binOpOf op) ⌝ }
+    ensures { λ r. ⌜ r ≡ opcodeOf (binOpOf op) ⌝ }
 {
     match op {
         0 => Opcode::Add,
@@ -123,58 +135,114 @@ pub fn read_mapping(code: &mut [u64], rules: Rules, key: St, place: usize, slot:
     emit::emit_new(code, rules, t, place, Opcode::SRead, 0, t.reg, 4294967295)
 }
 
-// 000: Push of the registers r, r + 1, .. (k of them)
-pub fn push_up(code: &mut [u64], st: St, r: u64, k: u64) -> St
-    requires { ⌜ r + k ≤ 18446744073709551615 ⌝ }
-    ensures { λ s. ⌜ Says st (now (code .entry)) s (now (code .exit)) (pushed r k) ⌝ }
+// The same state behind n words: a loop over words has only their number to carry on.
+fn at_word(st: St, n: usize) -> St
+    ensures { λ r. ⌜ r ≡ counted st n ⌝ }
 {
-    if k == 0 {
-        return st;
+    St {
+        next: st.next,
+        reg: st.reg,
+        err: st.err,
+        place: st.place,
+        n,
+        base: st.base,
     }
-    let a = emit::emit(code, st, Opcode::Push, 0, (r % 256) as u8, 0, 0);
-    push_up(code, a, r + 1, k - 1)
+}
+
+// Whether a window of this length shows none of the next k words, as most windows of a long program do: then they are only counted.
+// (Not so near to emit::MOST that the count would stop.)
+fn unseen(len: usize, st: St, k: u64) -> bool
+    ensures { λ r. ⌜ (r ≡ true → Unseen len st k) ⌝ }
+{
+    if 255 < k {
+        return false;
+    }
+    if 4294967000 <= st.n {
+        return false;
+    }
+    let end = st.n + (k as usize);
+    if end <= st.base {
+        return true;
+    }
+    if st.n < st.base {
+        return false;
+    }
+    let gone = st.n - st.base;
+    if gone < len {
+        return false;
+    }
+    true
+}
+
+// 000: Push of the registers 1, 2, .. k
+pub fn push_up(code: &mut [u64], st: St, k: u64) -> St
+    ensures { λ s. ⌜ Says st (now (code .entry)) s (now (code .exit)) (pushed 1 k) ⌝ }
+{
+    if unseen(code.len(), st, k) {
+        return at_word(st, st.n + (k as usize));
+    }
+    let mut i = 0;
+    let mut n = st.n;
+    while i < k {
+        i += 1;
+        let s = at_word(st, n);
+        n = emit::emit(code, s, Opcode::Push, 0, (i % 256) as u8, 0, 0).n;
+    }
+    at_word(st, n)
 }
 
 // 000: Pop of the registers k, k - 1, .. 1
 pub fn pop_down(code: &mut [u64], st: St, k: u64) -> St
     ensures { λ s. ⌜ Says st (now (code .entry)) s (now (code .exit)) (popped k) ⌝ }
 {
-    if k == 0 {
-        return st;
+    if unseen(code.len(), st, k) {
+        return at_word(st, st.n + (k as usize));
     }
-    let a = emit::emit(code, st, Opcode::Pop, (k % 256) as u8, 0, 0, 0);
-    pop_down(code, a, k - 1)
+    let mut i = 0;
+    let mut n = st.n;
+    while i < k {
+        i += 1;
+        let s = at_word(st, n);
+        n = emit::emit(code, s, Opcode::Pop, ((k - i + 1) % 256) as u8, 0, 0, 0).n;
+    }
+    at_word(st, n)
 }
 
-// 000: Push of each argument, from number i to n
-fn push_all(code: &mut [u64], vals: &[u64; 128], st: St, i: usize, n: usize) -> St
+// 000: Push of each argument, n of them
+fn push_all(code: &mut [u64], vals: &[u8; 64], st: St, n: usize) -> St
     requires { ⌜ n ≤ 64 ⌝ }
-    ensures { λ s. ⌜ Says st (now (code .entry)) s (now (code .exit)) (argued (valuesIn (now (vals .entry)) i (n - i))) ⌝ }
+    ensures { λ s. ⌜ Says st (now (code .entry)) s (now (code .exit)) (argued (regsIn (now (vals .entry)) 0 n)) ⌝ }
 {
-    if n <= i {
-        return st;
+    let mut i = 0;
+    let mut k = st.n;
+    while i < n {
+        let s = at_word(st, k);
+        k = emit::emit(code, s, Opcode::Push, 0, vals[i], 0, 0).n;
+        i += 1;
     }
-    let a = emit::emit(code, st, Opcode::Push, 0, reg_at(vals, i), 0, 0);
-    push_all(code, vals, a, i + 1, n)
+    at_word(st, k)
 }
 
-// 000: Store of each value of a StructLiteral, from number i to n
-fn store_all(code: &mut [u64], vals: &[u64; 128], st: St, ptr: u8, i: usize, n: usize) -> St
+// 000: Store of each value of a StructLiteral, n of them
+fn store_all(code: &mut [u64], vals: &[u8; 64], st: St, ptr: u8, n: usize) -> St
     requires { ⌜ n ≤ 64 ⌝ }
-    ensures { λ s. ⌜ Says st (now (code .entry)) s (now (code .exit)) (stored ptr i (valuesIn (now (vals .entry)) i (n - i))) ⌝ }
+    ensures { λ s. ⌜ Says st (now (code .entry)) s (now (code .exit)) (stored ptr 0 (regsIn (now (vals .entry)) 0 n)) ⌝ }
 {
-    if n <= i {
-        return st;
+    let mut i = 0;
+    let mut k = st.n;
+    while i < n {
+        let imm = (i as u64) * 8;
+        let s = at_word(st, k);
+        k = emit::emit(code, s, Opcode::Store, 0, ptr, vals[i], imm).n;
+        i += 1;
     }
-    let imm = (i as u64) * 8;
-    let a = emit::emit(code, st, Opcode::Store, 0, ptr, reg_at(vals, i), imm);
-    store_all(code, vals, a, ptr, i + 1, n)
+    at_word(st, k)
 }
 
 // 000: generate_expr, StructLiteral, from the values on; n is saved_next_reg
 pub fn close_literal(
     code: &mut [u64],
-    vals: &[u64; 128],
+    vals: &[u8; 64],
     rules: Rules,
     v: Several,
     place: usize,
@@ -182,9 +250,9 @@ pub fn close_literal(
     ptr: u8,
 ) -> St
     requires { ⌜ v .count ≤ 64 ⌝ }
-    ensures { λ s. ⌜ Ends (v .st) (now (code .entry)) s (now (code .exit)) (literal-end rules place n ptr (valuesIn (now (vals .entry)) 0 (v .count)) (v .st .next)) ⌝ }
+    ensures { λ s. ⌜ Ends (v .st) (now (code .entry)) s (now (code .exit)) (literal-end rules place n ptr (regsIn (now (vals .entry)) 0 (v .count)) (v .st .next)) ⌝ }
 {
-    let a = store_all(code, vals, v.st, ptr, 0, v.count);
+    let a = store_all(code, vals, v.st, ptr, v.count);
     let size = (v.count as u64) * 8;
     let z = a.alloc_reg(rules, place);
     let l = emit::emit(code, z, Opcode::Load, z.reg, 0, 0, size);
@@ -197,7 +265,7 @@ pub fn close_literal(
 // 000: generate_expr, Call, from the arguments on; n is saved_next_reg
 pub fn close_call(
     code: &mut [u64],
-    vals: &[u64; 128],
+    vals: &[u8; 64],
     rules: Rules,
     v: Several,
     place: usize,
@@ -205,9 +273,9 @@ pub fn close_call(
     function: usize,
 ) -> St
     requires { ⌜ v .count ≤ 64 ⌝ }
-    ensures { λ s. ⌜ CallEnds (v .st) (now (code .entry)) s (now (code .exit)) rules place n (valuesIn (now (vals .entry)) 0 (v .count)) function ⌝ }
+    ensures { λ s. ⌜ CallEnds (v .st) (now (code .entry)) s (now (code .exit)) rules place n (regsIn (now (vals .entry)) 0 (v .count)) function ⌝ }
 {
-    let a = push_all(code, vals, v.st, 0, v.count);
+    let a = push_all(code, vals, v.st, v.count);
     let c = emit::emit_call(code, a, function);
     let b = c.with(0, n);
     let d = emit::emit_new(code, rules, b, place, Opcode::Pop, 0, 0, 0);

@@ -39,7 +39,7 @@ use Rattle.bounds.specs.Programs.{Short, built, program-bounded}
 use Rattle.lent.specs.Over.{overAt, take-over, spread-join}
 use Rattle.lent.specs.Words.{eight, bytesOf}
 use Rattle.emit.specs.Ran.{orZero, orFirst, wordOf, callOf, raw}
-use Rattle.link.specs.Linked.{linkedFrom}
+use Rattle.link.specs.Linked.{linkedFrom, length-linked}
 use Rattle.link.specs.Same as linking
 use Rattle.link.specs.Same.{Placed, below}
 use Rattle.tables.specs.Listed.{functionsIn}
@@ -50,7 +50,7 @@ use Rattle.emit.specs.State.{rulesOf}
 use Rattle.emit.specs.declared.St.{St}
 use Rattle.emit.specs.declared.Rules as code
 use Rattle.codegen.specs.Does.{Checked, Opens}
-use Rattle.host.specs.Words.{firstWords, read-again, relaid, length-linked}
+use Rattle.host.specs.Words.{firstWords, read-again, relaid}
 use Rattle.host.specs.Fold.{firstsOf, all, Stand, Written}
 use Rattle.host.specs.Ends.{Hosted, refuses, no-room, accepts}
 

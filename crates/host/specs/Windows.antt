@@ -42,7 +42,7 @@ given img t s f h size = record { tabled = h .tabled; small = h .small; names = 
 
 -- How many words a window has.
 abbrev pub wide : ℕ
-wide = 2048
+wide = 4096
 
 pub record Wrote (C : Contract) (m : Res (List Open)) (first : ℕ) (s : List ℕ) (r : St) (s' : List ℕ) : Type 0 where
   pub size : length s' ≡ length s

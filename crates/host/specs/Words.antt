@@ -16,7 +16,7 @@ use Rattle.rules.specs.Bytes.{le16, le32, le64}
 use Rattle.rules.specs.Lent.{over, spread, wordBytes}
 use Rattle.lent.specs.Over.{overAt, length-over, getD-over, getD-over-past, length-spread, spread-more}
 use Rattle.lent.specs.Words.{eight, bytesOf}
-use Rattle.link.specs.Linked.{linked, linkedFrom}
+use Rattle.link.specs.Linked.{linked, linkedFrom, length-linked, linked-more}
 
 abbrev pub wordAt : List ℕ → ℕ → ℕ
 wordAt s i = le64 s (8 * i)
@@ -117,19 +117,7 @@ over-over (a ∷ l) (b ∷ m) (x ∷ s) e = ap {B = List ℕ} (λ r. a ∷ r) (o
 pub relaid : (l m s : List ℕ) → length l ≡ length m → over (bytesOf l) (over (bytesOf m) s) ≡ over (bytesOf l) s
 relaid l m s e = over-over (bytesOf l) (bytesOf m) s (length-bytes l ∙ ap (λ n. 8 * n) e ∙ sym (length-bytes m))
 
--- The words linked so far, and one more.
-pub length-linked : (F : List ℕ) (i : ℕ) (ws : List ℕ) → length (linkedFrom F i ws) ≡ length ws
-unfolding linkedFrom
-length-linked F i [] = refl
-length-linked F i (w ∷ ws) = ap suc (length-linked F (suc i) ws)
-
-linked-more : (F : List ℕ) (i : ℕ) (ws : List ℕ) (w : ℕ) → linkedFrom F i (ws ++ w ∷ []) ≡ linkedFrom F i ws ++ linked F (i + length ws) w ∷ []
-unfolding linkedFrom
-linked-more F i [] w = ap (λ (k : ℕ). linked F k w ∷ []) (sym (add-zero i))
-linked-more F i (x ∷ ws) w =
-    ap (λ (l : List ℕ). linked F i x ∷ l) (linked-more F (suc i) ws w
-    ∙ ap (λ (k : ℕ). linkedFrom F (suc i) ws ++ linked F k w ∷ []) (suc-add i (length ws) ∙ sym (add-suc i (length ws))))
-
+-- The words linked so far.
 pub record Linking (F s₀ : List ℕ) (n : ℕ) (s : List ℕ) (i : ℕ) : Type 0 where
   pub within : i ≤ n
   pub room : 8 * n ≤ length s₀

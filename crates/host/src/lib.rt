@@ -31,8 +31,8 @@ use lookup::Checked;
 use rules::Answer;
 use rules::Seen;
 
-// Words in a window: 16 KiB of the stack, so that the deepest image needs under 128 KiB. A longer function is generated once for each window.
-const WINDOW: usize = 2048;
+// Words in a window: 32 KiB of the stack, so that the deepest image needs under 128 KiB. A longer function is generated once for each window.
+const WINDOW: usize = 4096;
 
 // 000: main function not found
 const NO_MAIN: u64 = 40;
@@ -87,9 +87,9 @@ fn fresh(base: usize) -> St
 }
 
 // What the window shows of a function's n words from number base on goes to its place in the bytes.
-fn copy_out(out: &mut [u8], window: &[u64; 2048], first: usize, base: usize, n: usize)
+fn copy_out(out: &mut [u8], window: &[u64; WINDOW], first: usize, base: usize, n: usize)
     requires { ⌜ (base ≤ n) × (8 * (first + n) ≤ length (now out)) ⌝ }
-    ensures { λ _. ⌜ now (out .exit) ≡ overAt (8 * (first + base)) (bytesOf (take (min (n - base) 2048) (now (window .entry)))) (now (out .entry)) ⌝ }
+    ensures { λ _. ⌜ now (out .exit) ≡ overAt (8 * (first + base)) (bytesOf (take (min (n - base) 4096) (now (window .entry)))) (now (out .entry)) ⌝ }
 {
     let shown = emit::least(n - base, WINDOW);
     lent::copy_words(window, shown, out, first + base);
@@ -98,7 +98,7 @@ fn copy_out(out: &mut [u8], window: &[u64; 2048], first: usize, base: usize, n: 
 // 000: generate_function, of the function at f, whose first word has number `first`. Where the room ends before it does, only its words' count matters.
 fn write_function(
     out: &mut [u8],
-    window: &mut [u64; 2048],
+    window: &mut [u64; WINDOW],
     scope: &mut [usize; 1537],
     img: &[u8],
     tables: &[usize],
@@ -134,7 +134,7 @@ fn write_function(
 // 000: generate, the loop over the functions, and where each starts. The first refusal ends it.
 fn write_functions(
     out: &mut [u8],
-    window: &mut [u64; 2048],
+    window: &mut [u64; WINDOW],
     scope: &mut [usize; 1537],
     firsts: &mut [usize; 256],
     img: &[u8],
@@ -170,7 +170,7 @@ fn write_functions(
 // 000: generate, the first three words
 fn write_opening(
     out: &mut [u8],
-    window: &mut [u64; 2048],
+    window: &mut [u64; WINDOW],
     img: &[u8],
     tables: &[usize],
     start: usize,
@@ -208,7 +208,7 @@ fn write_program(out: &mut [u8], img: &[u8], tables: &[usize], start: usize) -> 
     requires { ⌜ Ready (now img) (now tables) × ((start ≡ orFirst (last-index functionName 0 main (contractAt (now img) .functions))) × (start ≡ 256 → ⊥)) ⌝ }
     ensures { λ r. ⌜ Hosted (now (img .entry)) (now (out .entry)) r (now (out .exit)) ⌝ }
 {
-    let mut window = [0u64; 2048];
+    let mut window = [0u64; WINDOW];
     let mut scope = [0usize; 1537];
     let mut firsts = [0usize; 256];
     write_opening(out, &mut window, img, tables, start);

@@ -1,41 +1,44 @@
--- A row of parts as one number: its lowest five bits are the first part, and the rest is the row behind it.
+-- What is due as one number: its lowest five bits are the first part, and the rest is the row behind it; of a List it is what the List
+-- holds, with how many more above it.
 -- Assumes nothing.
 use mathlib.Core.Path.{_≡_, _∙_, refl, sym, ap}
 use mathlib.Core.Bool.{Bool, true, false}
 use mathlib.Core.List.{List, [], _∷_}
-use Prim.Native.Nat.{ℕ, zero, suc, _+_, _-_, _/_, _%_, _≤_, _<_, zero-le}
+use Prim.Native.Nat.{ℕ, zero, suc, _+_, _-_, _*_, _/_, _%_, _≤_, _<_, zero-le}
 use native.Mathlib.Omega.{arith}
 use native.Mathlib.Numerals.{add-one}
-use borrow.Author.Tests.{le-leb, lt-leb, leb-true, leb-false}
-use lib.Dec.{T, leb, eqb, leb→le}
-use lib.ListN.{getD, drop, List·getD-eq-default}
-use Rattle.rules.specs.Bytes.{pick, _and_}
+use borrow.Author.Tests.{le-leb, lt-leb, lt-ltb, le-ltb, ltb-false, leb-true, eqb-true}
+use lib.Dec.{T, leb, ltb, eqb, leb→le}
+use lib.ListN.{getD, drop}
+use Rattle.rules.specs.Bytes.{pick, _or_, _and_}
 use Rattle.rules.specs.Grammar.{classes, classOf, records, statements, expressions, partsOf, partOf, dueAt}
 use Rattle.rules.specs.declared.Class.{Class}
-use Rattle.image.specs.Rows.{packed, duesOf, further}
+use Rattle.image.specs.Rows.{packed, listed, duesOf, further, full}
+use Rattle.image.proofs.Every.{by-cases, both, every-at, truth}
 
--- Every part is a number of five bits.
+-- Every part is at most 17.
 abbrev small : List ℕ → Bool
 small [] = true
-small (x ∷ xs) = leb x 31 and small xs
+small (x ∷ xs) = leb x 17 and small xs
 
-both : (a b : Bool) → T (a and b) → T a × T b
-both true b t = (tt, t)
-both false b t = absurd t
+part-small : (xs : List ℕ) (i : ℕ) → T (small xs) → getD xs i 0 ≤ 17
+part-small [] i h = zero-le
+part-small (x ∷ xs) zero h = leb→le x 17 (both (leb x 17) (small xs) h .0)
+part-small (x ∷ xs) (suc i) h = part-small xs i (both (leb x 17) (small xs) h .1)
 
 head : (xs : List ℕ) (i : ℕ) → T (small xs) → packed (drop i xs) % 32 ≡ getD xs i 0
 unfolding packed
 head [] zero h = refl
 head [] (suc i) h = refl
-head (x ∷ xs) zero h = let l = leb→le x 31 (both (leb x 31) (small xs) h .0) in omega arith
-head (x ∷ xs) (suc i) h = head xs i (both (leb x 31) (small xs) h .1)
+head (x ∷ xs) zero h = let l = leb→le x 17 (both (leb x 17) (small xs) h .0) in omega arith
+head (x ∷ xs) (suc i) h = head xs i (both (leb x 17) (small xs) h .1)
 
 tail : (xs : List ℕ) (i : ℕ) → T (small xs) → packed (drop i xs) / 32 ≡ packed (drop (suc i) xs)
 unfolding packed
 tail [] zero h = refl
 tail [] (suc i) h = refl
-tail (x ∷ xs) zero h = let l = leb→le x 31 (both (leb x 31) (small xs) h .0) in omega arith
-tail (x ∷ xs) (suc i) h = tail xs i (both (leb x 31) (small xs) h .1)
+tail (x ∷ xs) zero h = let l = leb→le x 17 (both (leb x 17) (small xs) h .0) in omega arith
+tail (x ∷ xs) (suc i) h = tail xs i (both (leb x 17) (small xs) h .1)
 
 -- The grammar's rows are such.
 abbrev all-small : List (List ℕ) → Bool
@@ -59,77 +62,108 @@ parts-small k =
     (either (leb 32 k) (getD statements (k - 32) []) _ (row-small statements (k - 32) tt)
     (either (leb 16 k) (getD records (k - 16) []) [] (row-small records (k - 16) tt) tt))
 
-abbrev items-small : List Class → Bool
-items-small [] = true
-items-small (c ∷ cs) = leb (c .item) 31 and items-small cs
+-- What a List holds is from 18 to 27, or nothing.
+abbrev item-right : ℕ → Bool
+item-right x = eqb x 0 or leb 18 x and leb x 27
 
-item-small : (cs : List Class) (d : ℕ) (c : Class) → T (items-small cs) → c .item ≤ 31 → getD cs d c .item ≤ 31
-item-small [] d c h l = l
-item-small (x ∷ xs) zero c h l = leb→le (x .item) 31 (both (leb (x .item) 31) (items-small xs) h .0)
-item-small (x ∷ xs) (suc d) c h l = item-small xs d c (both (leb (x .item) 31) (items-small xs) h .1) l
+abbrev items-right : List Class → Bool
+items-right [] = true
+items-right (c ∷ cs) = item-right (c .item) and items-right cs
 
-class-small : (d : ℕ) → classOf d .item ≤ 31
+items-at : (cs : List Class) (d : ℕ) (c : Class) → T (items-right cs) → T (item-right (c .item)) → T (item-right (getD cs d c .item))
+items-at [] d c h l = l
+items-at (x ∷ xs) zero c h l = both (item-right (x .item)) (items-right xs) h .0
+items-at (x ∷ xs) (suc d) c h l = items-at xs d c (both (item-right (x .item)) (items-right xs) h .1) l
+
+item-is : (d : ℕ) → T (item-right (classOf d .item))
 unfolding classOf
-class-small d = item-small classes d _ tt zero-le
+item-is d = items-at classes d _ tt tt
 
-first-by : (b : Bool) (x y z : ℕ) → x ≤ 31 → y % 32 ≡ z → pick b x y % 32 ≡ pick b x z
-unfolding pick
-first-by true x y z h e = omega arith
-first-by false x y z h e = e
+item-by : (x : ℕ) (a b c : Bool) → eqb x 0 ≡ a → leb 18 x ≡ b → leb x 27 ≡ c → T (a or b and c) → (x ≤ 27) × ((x ≡ 0 → ⊥) → 18 ≤ x)
+item-by x true b c e f g t = let z = eqb-true x 0 e in (omega arith, λ n. absurd (n z))
+item-by x false true true e f g t = (leb-true x 27 g, λ n. leb-true 18 x f)
+item-by x false true false e f g t = absurd t
+item-by x false false c e f g t = absurd t
 
-rest-by : (b : Bool) (x y z : ℕ) → y / 32 ≡ z → pick b (pick b x y) (pick b x y / 32) ≡ pick b x z
-unfolding pick
-rest-by true x y z e = refl
-rest-by false x y z e = e
+item-range : (d : ℕ) → (classOf d .item ≤ 27) × ((classOf d .item ≡ 0 → ⊥) → 18 ≤ classOf d .item)
+item-range d = let x = classOf d .item in item-by x (eqb x 0) (leb 18 x) (leb x 27) refl refl refl (item-is d)
+
+-- What stands alone has no bound of its own.
+alone-many : (x : ℕ) → x ≤ 17 → (x ≡ 0 → ⊥) → classOf x .most ≡ 65536
+unfolding classOf
+alone-many x l z = by x (truth _ (every-at 18 (λ (y : ℕ). eqb y 0 or eqb (getD classes y (record { low = 0; high = 0; most = 0; must = false; item = 0 }) .most) 65536) x tt (omega arith))) z
+  where
+    by : (x : ℕ) → (eqb x 0 or eqb (classOf x .most) 65536) ≡ true → (x ≡ 0 → ⊥) → classOf x .most ≡ 65536
+    by x t z = go (eqb x 0) refl t
+      where
+        go : (b : Bool) → eqb x 0 ≡ b → (b or eqb (classOf x .most) 65536) ≡ true → classOf x .most ≡ 65536
+        go true e t = absurd (z (eqb-true x 0 e))
+        go false e t = eqb-true _ _ t
+
+-- One of a List.
+module _ (x i : ℕ) (h : x ≤ 27) where
+  listed-first : listed x i % 32 ≡ x
+  unfolding listed
+  listed-first = let m = classOf x .most - i in omega arith
+
+  listed-rest : 18 ≤ x → full x (listed x i) ≡ false → further x (listed x i) ≡ listed x (i + 1)
+  unfolding listed further full pick
+  listed-rest l f =
+      let g : 4294967296 ≤ x + 4294967296 * (classOf x .most - i) = ltb-false (x + 4294967296 * (classOf x .most - i)) 4294967296 (rw (le-leb 18 x l) at f) in
+      rw (le-leb 18 x l) (omega arith)
+
+  listed-full : 18 ≤ x → leb (classOf x .most) i ≡ full x (listed x i)
+  unfolding listed full
+  listed-full l =
+      rw (le-leb 18 x l)
+      (by-cases (leb (classOf x .most) i ≡ ltb (x + 4294967296 * (classOf x .most - i)) 4294967296) (classOf x .most) i
+      (λ g. le-leb (classOf x .most) i g ∙ sym (lt-ltb (x + 4294967296 * (classOf x .most - i)) 4294967296 (omega arith)))
+      (λ g. lt-leb (classOf x .most) i g ∙ sym (le-ltb (x + 4294967296 * (classOf x .most - i)) 4294967296 (omega arith))))
+
+module _ (d i : ℕ) (xs : List ℕ) (h : T (small xs)) where
+  range-by : (b : Bool) → pick b (classOf d .item) (getD xs i 0) < 28
+  unfolding pick
+  range-by true = let r = item-range d in omega arith
+  range-by false = let l = part-small xs i h in omega arith
+
+  first-by : (b : Bool) → pick b (listed (classOf d .item) i) (packed (drop i xs)) % 32 ≡ pick b (classOf d .item) (getD xs i 0)
+  unfolding pick
+  first-by true = listed-first (classOf d .item) i (item-range d .0)
+  first-by false = head xs i h
+
+  rest-by :
+      (b : Bool) → (pick b (classOf d .item) (getD xs i 0) ≡ 0 → ⊥) → full (pick b (classOf d .item) (getD xs i 0)) (pick b (listed (classOf d .item) i) (packed (drop i xs))) ≡ false
+      → further (pick b (classOf d .item) (getD xs i 0)) (pick b (listed (classOf d .item) i) (packed (drop i xs))) ≡ pick b (listed (classOf d .item) (i + 1)) (packed (drop (i + 1) xs))
+  unfolding pick further
+  rest-by true z f = listed-rest (classOf d .item) i (item-range d .0) (item-range d .1 z) f
+  rest-by false z f =
+      rw (lt-leb 18 (getD xs i 0) (let l = part-small xs i h in omega arith))
+      (tail xs i h ∙ ap (λ (n : ℕ). packed (drop n xs)) (sym (add-one i)))
+
+  full-by :
+      (b : Bool) → (pick b (classOf d .item) (getD xs i 0) ≡ 0 → ⊥) → i < 65536
+      → leb (classOf (pick b (classOf d .item) (getD xs i 0)) .most) i ≡ full (pick b (classOf d .item) (getD xs i 0)) (pick b (listed (classOf d .item) i) (packed (drop i xs)))
+  unfolding pick full
+  full-by true z l = listed-full (classOf d .item) i (item-range d .0) (item-range d .1 z)
+  full-by false z l =
+      let s = part-small xs i h in
+      rw (alone-many (getD xs i 0) s z, lt-leb 65536 i l, lt-leb 18 (getD xs i 0) (omega arith)) refl
 
 module _ (d k i : ℕ) where
+  pub due-below : dueAt d k i < 28
+  unfolding dueAt partOf
+  due-below = range-by d i (partsOf k) (parts-small k) (eqb k 2)
+
   -- What is due at the i-th part, and what from the next on.
   pub due-first : duesOf d k i % 32 ≡ dueAt d k i
   unfolding duesOf dueAt partOf
-  due-first = first-by (eqb k 2) (classOf d .item) (packed (drop i (partsOf k))) (partOf k i) (class-small d) (head (partsOf k) i (parts-small k))
+  due-first = first-by d i (partsOf k) (parts-small k) (eqb k 2)
 
-  pub due-rest : further k (duesOf d k i) ≡ duesOf d k (i + 1)
-  unfolding duesOf further
-  due-rest =
-      rest-by (eqb k 2) (classOf d .item) (packed (drop i (partsOf k))) (packed (drop (i + 1) (partsOf k)))
-      (tail (partsOf k) i (parts-small k) ∙ ap (λ (n : ℕ). packed (drop n (partsOf k))) (sym (add-one i)))
+  pub due-rest : (dueAt d k i ≡ 0 → ⊥) → full (dueAt d k i) (duesOf d k i) ≡ false → further (dueAt d k i) (duesOf d k i) ≡ duesOf d k (i + 1)
+  unfolding duesOf dueAt partOf
+  due-rest = rest-by d i (partsOf k) (parts-small k) (eqb k 2)
 
-pub by-cases : (P : Type 0) (a b : ℕ) → (a ≤ b → P) → (b < a → P) → P
-by-cases P a b f g = go (leb a b) refl
-  where
-    go : (v : Bool) → leb a b ≡ v → P
-    go true e = f (leb-true a b e)
-    go false e = g (leb-false a b e)
-
--- A kind between the rows of its table has no parts.
-module _ (k : ℕ) where
-  pub none-low : k < 16 → partsOf k ≡ []
-  unfolding pick partsOf
-  none-low h = rw (lt-leb 64 k (omega arith), lt-leb 32 k (omega arith), lt-leb 16 k h)
-
-  none-records : 21 ≤ k → k < 32 → partsOf k ≡ []
-  unfolding pick partsOf records
-  none-records h l = rw (lt-leb 64 k (omega arith), lt-leb 32 k l, le-leb 16 k (omega arith)) (List·getD-eq-default records [] {n = k - 16} (omega arith))
-
-  none-statements : 43 ≤ k → k < 64 → partsOf k ≡ []
-  unfolding pick partsOf statements
-  none-statements h l = rw (lt-leb 64 k l, le-leb 32 k (omega arith)) (List·getD-eq-default statements [] {n = k - 32} (omega arith))
-
-  none-expressions : 72 ≤ k → partsOf k ≡ []
-  unfolding pick partsOf expressions
-  none-expressions h = rw (le-leb 64 k (omega arith)) (List·getD-eq-default expressions [] {n = k - 64} (omega arith))
-
-  only-int : 64 ≤ k → k < 65 → partsOf k ≡ []
-  unfolding pick partsOf expressions
-  only-int h l = let e : k ≡ 64 = omega arith in rw e
-
-  -- Whatever is past the last row of a table, once it is past the first.
-  pub none : (16 ≤ k → 21 ≤ k) → (32 ≤ k → 43 ≤ k) → (65 ≤ k → 72 ≤ k) → partsOf k ≡ []
-  none r s x =
-      by-cases (partsOf k ≡ []) 16 k
-      (λ a. by-cases (partsOf k ≡ []) 32 k
-      (λ b. by-cases (partsOf k ≡ []) 64 k
-      (λ c. by-cases (partsOf k ≡ []) 65 k (λ d. none-expressions (x d)) (only-int c))
-      (none-statements (s b)))
-      (none-records (r a)))
-      none-low
+  -- Its bound is passed where the number says so.
+  pub due-full : (dueAt d k i ≡ 0 → ⊥) → i < 65536 → leb (classOf (dueAt d k i) .most) i ≡ full (dueAt d k i) (duesOf d k i)
+  unfolding duesOf dueAt partOf
+  due-full = full-by d i (partsOf k) (parts-small k) (eqb k 2)

@@ -7,8 +7,16 @@ use Prim.Native.Nat.{ℕ, suc, _+_, _-_, _≤_, _<_}
 use native.Mathlib.Omega.{arith}
 use borrow.Author.Tests.{ltb-false, eqb-false}
 use lib.Dec.{T, ltb, eqb}
-use Rattle.rules.specs.Bytes.{kindAt, endAt, pick, le32, _or_}
+use Rattle.rules.specs.Bytes.{kindAt, endAt, pick, le32, _or_, _and_}
 use Rattle.rules.specs.Check.{unframed, undue, crowded, ownOf, headerOf, refusalOf}
+
+pub and-false : (a : Bool) → false ≡ (a and false)
+and-false true = refl
+and-false false = refl
+
+pub and-true : (a : Bool) → a ≡ (a and true)
+and-true true = refl
+and-true false = refl
 
 pub or-false : (a b : Bool) → (a or b) ≡ false → (a ≡ false) × (b ≡ false)
 or-false true b e = absurd (subst T e tt)

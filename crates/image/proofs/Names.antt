@@ -1,13 +1,13 @@
 -- The steps of a walk over the bytes of a name.
 -- Assumes nothing.
-use mathlib.Core.Path.{_≡_, refl}
+use mathlib.Core.Path.{_≡_, refl, subst}
 use mathlib.Core.Bool.{true, false}
 use mathlib.Core.List.{List}
-use Prim.Native.Nat.{ℕ, zero, suc, _+_, _-_, _≤_, _<_, min}
+use Prim.Native.Nat.{ℕ, zero, suc, _+_, _-_, _/_, _≤_, _<_, min}
 use native.Mathlib.Omega.{arith}
 use Rattle.rules.specs.Bytes.{byteAt, nameByte, nameFrom}
 use Rattle.image.specs.Names.{Named, Fours}
-use Rattle.image.proofs.Dues.{by-cases}
+use Rattle.image.proofs.Every.{by-cases}
 
 pub name-end : (s : List ℕ) (p to : ℕ) → to ≤ p → nameFrom s p (to - p) ≡ true
 unfolding nameFrom
@@ -30,6 +30,17 @@ all-named s p to h all = upto (to - p) p (λ k l m. all k l (omega arith))
     upto : (n p : ℕ) → Named s p (p + n) → nameFrom s p n ≡ true
     upto zero p f = refl
     upto (suc n) p f = rw (f p (omega arith) (omega arith)) (upto n (p + 1) (λ k l m. f k (omega arith) (omega arith)))
+
+-- One to three bytes are the first, the middle and the last.
+pub few-named :
+    (s : List ℕ) (from to : ℕ) → from < to → to ≤ from + 3
+    → (nameByte (byteAt s from) ≡ true) × (nameByte (byteAt s (from + (to - from) / 2)) ≡ true) × (nameByte (byteAt s (to - 1)) ≡ true) → Named s from to
+few-named s from to h g n k l m = by-cases (N k) (from + 1) k
+    (λ i. by-cases (N k) (to - 1) k (λ j. let e : to - 1 ≡ k = omega arith in subst N e (n .2)) (λ j. let e : from + (to - from) / 2 ≡ k = omega arith in subst N e (n .1)))
+    (λ i. let e : from ≡ k = omega arith in subst N e (n .0))
+  where
+    N : ℕ → Type 0
+    N x = nameByte (byteAt s x) ≡ true
 
 module _ (s : List ℕ) (from p to : ℕ) (before : Named s from p) where
   pub eight-more : Fours s p (p + 4) → Named s from (p + 8)

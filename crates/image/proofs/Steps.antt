@@ -2,17 +2,18 @@
 -- Assumes nothing.
 use mathlib.Core.Path.{_≡_, _∙_, refl, sym, subst}
 use mathlib.Core.Bool.{Bool, true, false}
-use mathlib.Core.List.{List}
+use mathlib.Core.List.{List, []}
 use Prim.Native.Nat.{ℕ, zero, suc, _+_, _-_, _<_}
 use native.Mathlib.Omega.{arith}
-use borrow.Author.Tests.{eq-eqb, ne-eqb, lt-ltb, le-ltb, ltb-true, ltb-false, eqb-true}
+use borrow.Author.Tests.{eq-eqb, ne-eqb, lt-leb, lt-ltb, le-ltb, ltb-true, ltb-false, eqb-true}
 use lib.Dec.{T, eqb, ltb}
 use Rattle.rules.specs.Bytes.{pick, kindAt, endAt, _or_}
 use Rattle.rules.specs.Grammar.{classOf, expressions, partsOf, partOf, dueAt}
 use Rattle.rules.specs.Check.{undue, counts, headerOf, refusalOf, varsIn, startOf, ended, Child, andThen, childrenOf, recordBy, recordOf}
 use Rattle.rules.specs.declared.Seen.the-variants.{Sound, Fault}
-use Rattle.image.specs.Within.{leaf, partsIn}
-use Rattle.image.proofs.Dues.{by-cases, none-low}
+use Rattle.image.specs.Leaves.{leaf}
+use Rattle.image.specs.Within.{partsIn}
+use Rattle.image.proofs.Every.{by-cases}
 use Rattle.image.proofs.Header.{or-false, passed, sound-header}
 
 module _ (s : List ℕ) (at end d i vars : ℕ) where
@@ -53,6 +54,18 @@ module _ (child : Child) (s : List ℕ) (p end d k i vars : ℕ) where
   parts-left zero h e z = absurd (omega arith)
   parts-left (suc f) h e z = rw (e, eq-eqb (dueAt d k i) 0 z)
 
+  pub parts-then :
+      (fuel : ℕ) →
+      end - p < fuel →
+      ended (dueAt d k i) p end ≡ false →
+      (dueAt d k i ≡ 0 → ⊥) →
+      childrenOf child fuel s p end d k i vars ≡ andThen (child s p end (dueAt d k i) i vars) (λ q m. childrenOf child (fuel - 1) s q end d k (i + 1) m)
+  unfolding pick childrenOf
+  parts-then zero h e z = absurd (omega arith)
+  parts-then (suc f) h e z =
+      let o : suc f - 1 ≡ f = omega arith in
+      rw (o, e, ne-eqb (dueAt d k i) 0 z)
+
   pub parts-fault :
       (fuel : ℕ) →
       end - p < fuel →
@@ -88,6 +101,10 @@ start-by false false false from to = refl
 start-is : (k from to : ℕ) → startOf k from to ≡ pick (leaf k) to from
 unfolding startOf leaf
 start-is k from to = start-by (eqb k 64) (eqb k 2) (ltb k 16) from to
+
+none-low : (k : ℕ) → k < 16 → partsOf k ≡ []
+unfolding pick partsOf
+none-low k h = rw (lt-leb 64 k (omega arith), lt-leb 32 k (omega arith), lt-leb 16 k h)
 
 int-due : (d : ℕ) → dueAt d 64 0 ≡ 0
 unfolding pick dueAt partOf partsOf expressions

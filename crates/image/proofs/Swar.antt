@@ -1,9 +1,9 @@
 -- Eight bytes tested at once: the digits of a number to the base 256, under sums with no carry and under bit operations.
 -- Assumes nothing.
-use mathlib.Core.Path.{_≡_, _∙_, refl, sym, ap, ap₂, subst}
+use mathlib.Core.Path.{_≡_, _∙_, sym, ap, ap₂, subst}
 use mathlib.Core.Bool.{Bool, true, false}
 use mathlib.Core.List.{List, [], _∷_}
-use Prim.Native.Nat.{ℕ, zero, suc, _+_, _*_, _≤_, _<_}
+use Prim.Native.Nat.{ℕ, _+_, _*_, _≤_, _<_}
 use native.Mathlib.Omega.{arith}
 use borrow.Author.Tests.{eq-eqb, ltb-true}
 use lib.Bits.{bitAnd, bitXor, and-block, xor-block, and-le-r, xor-lt}
@@ -11,22 +11,7 @@ use lib.Dec.{T, eqb, ltb}
 use lib.ListN.{getD}
 use Rattle.rules.specs.Bytes.{byteAt, le16, le32, nameByte, _and_}
 use Rattle.image.specs.Names.{Fours}
-use Rattle.image.proofs.Dues.{by-cases}
-
--- A test of every number below n.
-abbrev every : ℕ → (ℕ → Bool) → Bool
-every zero f = true
-every (suc n) f = f n and every n f
-
-both : (a b : Bool) → T (a and b) → T a × T b
-both true b t = (tt, t)
-both false b t = absurd t
-
-every-at : (n : ℕ) (f : ℕ → Bool) (k : ℕ) → T (every n f) → k < n → T (f k)
-every-at zero f k h l = absurd (omega arith)
-every-at (suc n) f k h l =
-    let b = both (f n) (every n f) h in
-    by-cases (T (f k)) n k (λ g. let e : n ≡ k = omega arith in subst (λ (x : ℕ). T (f x)) e (b .0)) (λ g. every-at n f k (b .1) g)
+use Rattle.image.proofs.Every.{by-cases, every-at, truth}
 
 -- What follows where a test holds.
 abbrev then : Bool → Bool → Bool
@@ -36,10 +21,6 @@ then false b = true
 follows : (a b : Bool) → T (then a b) → a ≡ true → T b
 follows true b t e = t
 follows false b t e = absurd (subst T (sym e) tt)
-
-truth : (b : Bool) → T b → b ≡ true
-truth true t = refl
-truth false t = absurd t
 
 -- The numbers that have these digits; and that have c for each.
 abbrev pack : List ℕ → ℕ
@@ -148,3 +129,19 @@ module _ (s : List ℕ) (p q : ℕ) (h : (k : ℕ) → getD s k 0 < 256) (e : bi
   fours g =
       let n = named (eight s p q) low (subst (λ (w : ℕ). bitAnd (chain w (λ (c : ℕ). c * 72340172838076673)) 9259542123273814144 ≡ 9259542123273814144) (word-is s p q) g) in
       (λ k. four s p k (n .0) (n .1 .0) (n .1 .1 .0) (n .1 .1 .1 .0), λ k. four s q k (n .1 .1 .1 .1 .0) (n .1 .1 .1 .1 .1 .0) (n .1 .1 .1 .1 .1 .1 .0) (n .1 .1 .1 .1 .1 .1 .1 .0))
+
+-- One to three bytes, with a fourth that is one of a name.
+module _ (a b c : ℕ) (h : (a < 256) × (b < 256) × (c < 256)) (e : bitAnd (a + 256 * b + 65536 * c + 805306368) 2155905152 ≡ 0) where
+  few-is : a + 256 * b + 65536 * c + 805306368 ≡ pack (a ∷ b ∷ c ∷ 48 ∷ [])
+  few-is = omega arith
+
+  few-low : Below 128 (a ∷ b ∷ c ∷ 48 ∷ [])
+  few-low = clear (a ∷ b ∷ c ∷ 48 ∷ []) (h .0, (h .1, (h .2, (omega arith, tt)))) (subst (λ (w : ℕ). bitAnd w 2155905152 ≡ 0) few-is e)
+
+  pub few-room : a + 256 * b + 65536 * c + 805306368 ≤ 2139062143
+  few-room = let l = few-low in omega (arith, l)
+
+  pub few : bitAnd (chain (a + 256 * b + 65536 * c + 805306368) (λ (x : ℕ). x * 16843009)) 2155905152 ≡ 2155905152 → (nameByte a ≡ true) × (nameByte b ≡ true) × (nameByte c ≡ true)
+  few g =
+      let n = named (a ∷ b ∷ c ∷ 48 ∷ []) few-low (subst (λ (w : ℕ). bitAnd (chain w (λ (x : ℕ). x * 16843009)) 2155905152 ≡ 2155905152) few-is g) in
+      (n .0, n .1 .0, n .1 .1 .0)

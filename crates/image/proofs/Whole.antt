@@ -12,7 +12,8 @@ use Rattle.rules.specs.Grammar.{Contract, classOf}
 use Rattle.rules.specs.Check.{unframed, undue, counts, crowded, ownOf, headerOf, refusalOf, varsIn, recordOf, wholeOf, checkOf}
 use Rattle.rules.specs.declared.Seen.{Seen}
 use Rattle.rules.specs.declared.Seen.the-variants.{Sound, Fault}
-use Rattle.image.specs.Within.{leaf, partsIn}
+use Rattle.image.specs.Leaves.{leaf}
+use Rattle.image.specs.Within.{partsIn}
 use Rattle.image.proofs.Header.{refuse-0, refuse-2, refuse-3}
 use Rattle.image.proofs.Steps.{apart, record-refused, part-open}
 

@@ -1,3 +1,4 @@
+pub mod Leaves
 pub mod Names
 pub mod Rows
 pub mod Within

@@ -1,7 +1,12 @@
-// The grammar of the contract image as tables: what may stand where a record is due, and the parts of each kind.
+// The grammar of the contract image as a table: where each kind may stand, and what is due in it.
 ghost use mathlib.Core.Path.{_≡_};
-ghost use Rattle.rules.specs.Grammar.{classOf, partsOf};
-ghost use Rattle.image.specs.Rows.{rowOf, packed, duesOf, further};
+ghost use mathlib.Core.Bool.{not};
+ghost use Prim.Native.Nat.{_≤_, _<_};
+ghost use lib.Dec.{ltb};
+ghost use lib.ListN.{getD};
+ghost use Rattle.rules.specs.Grammar.{classOf};
+ghost use Rattle.rules.specs.Check.{ended};
+ghost use Rattle.image.specs.Rows.{off, inner, further};
 
 // What is due at a place: no more, a record of its own, a List, or a record of a List.
 pub const NOTHING: usize = 0;
@@ -60,49 +65,6 @@ pub const ARGUMENT: usize = 26;
 
 pub const VALUE: usize = 27;
 
-// No bound of its own: no image has so many records.
-const MANY: usize = 65536;
-
-// The first and the last kind that may stand there, how many such records one List holds, whether the record must stand there, and
-// what a List there holds.
-pub struct Row(pub usize, pub usize, pub usize, pub bool, pub usize);
-
-// The row of what is due; that of NOTHING past the table's end.
-pub fn class_of(d: usize) -> Row
-    ensures { λ r. ⌜ r ≡ rowOf (classOf d) ⌝ }
-{
-    match d {
-        1 => Row(16, 16, MANY, true, NOTHING),
-        2 => Row(1, 1, MANY, true, NOTHING),
-        3 => Row(3, 3, MANY, true, NOTHING),
-        4 => Row(4, 4, MANY, true, NOTHING),
-        5 => Row(64, 71, MANY, true, NOTHING),
-        6 => Row(64, 71, MANY, false, NOTHING),
-        7 => Row(2, 2, MANY, true, STORAGE_FIELD),
-        8 => Row(2, 2, MANY, true, STRUCT),
-        9 => Row(2, 2, MANY, true, FUNCTION),
-        10 => Row(2, 2, MANY, true, STRUCT_FIELD),
-        11 => Row(2, 2, MANY, true, PARAM),
-        12 => Row(2, 2, MANY, true, RESULT_NAME),
-        13 => Row(2, 2, MANY, true, STATEMENT),
-        14 => Row(2, 2, MANY, false, STATEMENT),
-        15 => Row(2, 2, MANY, true, INIT),
-        16 => Row(2, 2, MANY, true, ARGUMENT),
-        17 => Row(2, 2, MANY, true, VALUE),
-        18 => Row(17, 17, 256, false, NOTHING),
-        19 => Row(18, 18, 64, false, NOTHING),
-        20 => Row(19, 19, 256, false, NOTHING),
-        21 => Row(17, 17, 64, false, NOTHING),
-        22 => Row(17, 17, MANY, false, NOTHING),
-        23 => Row(1, 1, 1, false, NOTHING),
-        24 => Row(32, 42, MANY, false, NOTHING),
-        25 => Row(20, 20, 64, false, NOTHING),
-        26 => Row(64, 71, 64, false, NOTHING),
-        27 => Row(64, 71, MANY, false, NOTHING),
-        _ => Row(0, 0, 0, false, NOTHING),
-    }
-}
-
 // The parts of a record as one number, five bits a part, the first lowest.
 const SECOND: usize = 32;
 
@@ -112,7 +74,7 @@ const FOURTH: usize = 32768;
 
 const FIFTH: usize = 1048576;
 
-const CONTRACT_PARTS: usize = NAME + SECOND * STORAGE + THIRD * STRUCTS + FOURTH * FUNCTIONS;
+pub const CONTRACT_PARTS: usize = NAME + SECOND * STORAGE + THIRD * STRUCTS + FOURTH * FUNCTIONS;
 
 const FIELD_PARTS: usize = NAME + SECOND * NAME;
 
@@ -144,54 +106,198 @@ const BINARY: usize = EXPRESSION + SECOND * OP + THIRD * EXPRESSION;
 
 const CALL: usize = NAME + SECOND * ARGUMENTS;
 
-// The parts of kinds 16 to 20 (Contract, Field, Struct, Function, Init), 32 to 42 (Let, Constrain, Assign, StorageWrite, MappingWrite, If,
-// While, For, Return, Emit, Expr) and 65 to 71 (Ident, StorageRead, MappingRead, FieldAccess, StructLiteral, Binary, Call); no other has any.
-fn parts(kind: usize) -> usize
-    ensures { λ r. ⌜ r ≡ packed (partsOf kind) ⌝ }
+// The parts stand above the 32 bits that say where a kind may stand.
+pub const PARTS: usize = 4294967296;
+
+// Bit d: the kind may stand where d is due.
+const AT_CONTRACT: usize = 1 << CONTRACT;
+
+const AT_NAME: usize = (1 << NAME) + (1 << RESULT_NAME);
+
+const AT_FLAG: usize = 1 << FLAG;
+
+const AT_OP: usize = 1 << OP;
+
+// The Lists' dues are the bits from STORAGE to EMITTED.
+const AT_LIST: usize = (1 << STORAGE_FIELD) - (1 << STORAGE);
+
+const AT_FIELD: usize = (1 << STORAGE_FIELD) + (1 << STRUCT_FIELD) + (1 << PARAM);
+
+const AT_STRUCT: usize = 1 << STRUCT;
+
+const AT_FUNCTION: usize = 1 << FUNCTION;
+
+const AT_INIT: usize = 1 << INIT;
+
+const AT_STATEMENT: usize = 1 << STATEMENT;
+
+const AT_EXPRESSION: usize = (1 << EXPRESSION) + (1 << RETURNED) + (1 << ARGUMENT) + (1 << VALUE);
+
+// No bound of its own: no image has so many records.
+pub const MANY: usize = 65536;
+
+// A row of each kind to 71: where it may stand, and above it its parts (of a List 1). Then a row of each due to 17: of a List what it
+// holds, and above it how many.
+pub const TABLE: [usize; 90] = [
+    // Name, List, Flag, Op.
+    0,
+    AT_NAME,
+    AT_LIST + PARTS,
+    AT_FLAG,
+    AT_OP,
+    0,
+    0,
+    0,
+    0,
+    0,
+    0,
+    0,
+    0,
+    0,
+    0,
+    0,
+    // From 16: Contract, Field, Struct, Function, Init.
+    AT_CONTRACT + PARTS * CONTRACT_PARTS,
+    AT_FIELD + PARTS * FIELD_PARTS,
+    AT_STRUCT + PARTS * STRUCT_PARTS,
+    AT_FUNCTION + PARTS * FUNCTION_PARTS,
+    AT_INIT + PARTS * NAMED,
+    0,
+    0,
+    0,
+    0,
+    0,
+    0,
+    0,
+    0,
+    0,
+    0,
+    0,
+    // From 32: Let, Constrain, Assign, StorageWrite, MappingWrite, If, While, For, Return, Emit, Expr.
+    AT_STATEMENT + PARTS * NAMED,
+    AT_STATEMENT + PARTS * EXPRESSION,
+    AT_STATEMENT + PARTS * NAMED,
+    AT_STATEMENT + PARTS * NAMED,
+    AT_STATEMENT + PARTS * MAPPING_WRITE,
+    AT_STATEMENT + PARTS * IF,
+    AT_STATEMENT + PARTS * WHILE,
+    AT_STATEMENT + PARTS * FOR,
+    AT_STATEMENT + PARTS * RETURNED,
+    AT_STATEMENT + PARTS * EMIT,
+    AT_STATEMENT + PARTS * EXPRESSION,
+    0,
+    0,
+    0,
+    0,
+    0,
+    0,
+    0,
+    0,
+    0,
+    0,
+    0,
+    0,
+    0,
+    0,
+    0,
+    0,
+    0,
+    0,
+    0,
+    0,
+    0,
+    // From 64: Int, Ident, StorageRead, MappingRead, FieldAccess, StructLiteral, Binary, Call.
+    AT_EXPRESSION,
+    AT_EXPRESSION + PARTS * NAME,
+    AT_EXPRESSION + PARTS * NAME,
+    AT_EXPRESSION + PARTS * NAMED,
+    AT_EXPRESSION + PARTS * FIELD_ACCESS,
+    AT_EXPRESSION + PARTS * STRUCT_LITERAL,
+    AT_EXPRESSION + PARTS * BINARY,
+    AT_EXPRESSION + PARTS * CALL,
+    // From 72: what each List holds.
+    0,
+    0,
+    0,
+    0,
+    0,
+    0,
+    0,
+    STORAGE_FIELD + PARTS * 256,
+    STRUCT + PARTS * 64,
+    FUNCTION + PARTS * 256,
+    STRUCT_FIELD + PARTS * 64,
+    PARAM + PARTS * MANY,
+    RESULT_NAME + PARTS,
+    STATEMENT + PARTS * MANY,
+    STATEMENT + PARTS * MANY,
+    INIT + PARTS * 64,
+    ARGUMENT + PARTS * 64,
+    VALUE + PARTS * MANY,
+];
+
+// A kind may not stand where d is due.
+pub fn not_due(t: &[usize; 90], d: usize, kind: usize) -> bool
+    requires { ⌜ d < 32 ⌝ }
+    ensures { λ r. ⌜ r ≡ off (now (t .entry)) d kind ⌝ }
 {
-    match kind {
-        16 => CONTRACT_PARTS,
-        17 => FIELD_PARTS,
-        18 => STRUCT_PARTS,
-        19 => FUNCTION_PARTS,
-        20 => NAMED,
-        32 => NAMED,
-        33 => EXPRESSION,
-        34 => NAMED,
-        35 => NAMED,
-        36 => MAPPING_WRITE,
-        37 => IF,
-        38 => WHILE,
-        39 => FOR,
-        40 => RETURNED,
-        41 => EMIT,
-        42 => EXPRESSION,
-        65 => NAME,
-        66 => NAME,
-        67 => NAMED,
-        68 => FIELD_ACCESS,
-        69 => STRUCT_LITERAL,
-        70 => BINARY,
-        71 => CALL,
-        _ => NOTHING,
+    if 72 <= kind {
+        return true;
     }
+    (t[kind] >> d) & 1 == 0
 }
 
-// What is due in a record of a kind that stands where d was due: a List holds one class, any other record its parts.
-pub fn dues_of(d: usize, kind: usize) -> usize
-    ensures { λ r. ⌜ r ≡ duesOf d kind 0 ⌝ }
+// It has no parts.
+pub fn is_leaf(t: &[usize; 90], kind: usize) -> bool
+    requires { ⌜ kind < 72 ⌝ }
+    ensures { λ r. ⌜ r ≡ ltb (getD (now (t .entry)) kind 0) 4294967296 ⌝ }
+{
+    t[kind] < PARTS
+}
+
+// What is due in a record of a kind that stands where d was due.
+pub fn dues_of(t: &[usize; 90], d: usize, kind: usize) -> usize
+    requires { ⌜ (kind < 72) × (kind ≡ 2 → d < 18) ⌝ }
+    ensures { λ r. ⌜ r ≡ inner (now (t .entry)) d kind ⌝ }
 {
     if kind == 2 {
-        let c = class_of(d);
-        c.4
+        t[72 + d]
     } else {
-        parts(kind)
+        t[kind] / PARTS
     }
 }
 
-// What is due after the first of them.
-pub fn after_first(kind: usize, dues: usize) -> usize
-    ensures { λ r. ⌜ r ≡ further kind dues ⌝ }
+// What is due after the first of them, d: in a List one less.
+pub fn after_first(d: usize, dues: usize) -> usize
+    requires { ⌜ (18 ≤ d → 4294967296 ≤ dues) ⌝ }
+    ensures { λ r. ⌜ r ≡ further d dues ⌝ }
 {
-    if kind == 2 { dues } else { dues / 32 }
+    if STORAGE_FIELD <= d {
+        dues - PARTS
+    } else {
+        dues / 32
+    }
+}
+
+// What may be left off: nothing, a record of a List, what a Return returns, an If's else.
+fn may_end(d: usize) -> bool
+    ensures { λ r. ⌜ r ≡ not (classOf d .must) ⌝ }
+{
+    if STORAGE_FIELD <= d {
+        return true;
+    }
+    if d == NOTHING {
+        return true;
+    }
+    if d == RETURNED {
+        return true;
+    }
+    d == ELSE
+}
+
+// No byte is left, and none is due.
+pub fn is_ended(due: usize, p: usize, end: usize) -> bool
+    ensures { λ r. ⌜ r ≡ ended due p end ⌝ }
+{
+    if p == end { may_end(due) } else { false }
 }

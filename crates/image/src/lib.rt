@@ -2,22 +2,30 @@
 mod grammar;
 mod read;
 
-use grammar::CONTRACT;
+use grammar::CONTRACT_PARTS;
+use grammar::MANY;
 use grammar::PARAM;
+use grammar::PARTS;
+use grammar::STORAGE_FIELD;
+use grammar::TABLE;
 use grammar::after_first;
-use grammar::class_of;
 use grammar::dues_of;
+use grammar::is_ended;
+use grammar::is_leaf;
+use grammar::not_due;
 use read::all_name;
 use read::half;
 use read::wide;
 use read::word;
 use rules::Seen;
 ghost use mathlib.Core.Path.{_≡_};
-ghost use mathlib.Core.Bool.{true, false};
 ghost use Prim.Native.Nat.{_+_, _-_, _≤_, _<_};
 ghost use lib.ListN.{length};
-ghost use Rattle.rules.specs.Check.{unframed, undue, counts, crowded, small, ownOf, headerOf, refusalOf, varsIn, ended, checkOf};
-ghost use Rattle.image.specs.Within.{leaf, partsIn, Ends};
+ghost use lib.Dec.{eqb, leb};
+ghost use Rattle.rules.specs.Bytes.{_or_, _and_};
+ghost use Rattle.rules.specs.Check.{unframed, counts, small, ownOf, varsIn, checkOf};
+ghost use Rattle.image.specs.Rows.{off, full, Right};
+ghost use Rattle.image.specs.Within.{short, firstOf, faultOf, Parts};
 
 // Under 6 bytes are left, or the length is under 2 or passes the end.
 fn no_frame(s: &[u8], at: usize, end: usize) -> bool
@@ -34,17 +42,6 @@ fn no_frame(s: &[u8], at: usize, end: usize) -> bool
     end - at < 4 + len
 }
 
-// The kind is not due.
-fn not_due(d: usize, kind: usize) -> bool
-    ensures { λ r. ⌜ r ≡ undue d kind ⌝ }
-{
-    let c = class_of(d);
-    if kind < c.0 {
-        return true;
-    }
-    c.1 < kind
-}
-
 // A parameter, a Let or a For.
 fn is_var(d: usize, kind: usize) -> bool
     ensures { λ r. ⌜ r ≡ counts d kind ⌝ }
@@ -58,15 +55,27 @@ fn is_var(d: usize, kind: usize) -> bool
     kind == 39
 }
 
-// The record is the first over a bound.
-fn too_many(d: usize, kind: usize, i: usize, vars: usize) -> bool
-    ensures { λ r. ⌜ r ≡ crowded d kind i vars ⌝ }
+// One of too many parameters, Lets and Fors.
+fn many_vars(d: usize, kind: usize, vars: usize) -> bool
+    ensures { λ r. ⌜ r ≡ (counts d kind and leb 512 vars) ⌝ }
 {
-    let c = class_of(d);
-    if c.2 <= i {
-        return true;
+    if vars < 512 {
+        return false;
     }
-    if 512 <= vars { is_var(d, kind) } else { false }
+    is_var(d, kind)
+}
+
+// The record is the first over a bound: of its List, or of its function's parameters, Lets and Fors.
+fn too_many(d: usize, kind: usize, dues: usize, vars: usize) -> bool
+    ensures { λ r. ⌜ r ≡ (full d dues or counts d kind and leb 512 vars) ⌝ }
+{
+    if STORAGE_FIELD <= d {
+        if dues < PARTS {
+            return true;
+        }
+        return many_vars(d, kind, vars);
+    }
+    many_vars(d, kind, vars)
 }
 
 // One byte below a limit.
@@ -107,28 +116,36 @@ fn own(s: &[u8], from: usize, to: usize, kind: usize) -> bool
     true
 }
 
-// The refusal of a record before its children are looked at, or 0.
-fn refusal(s: &[u8], at: usize, end: usize, left: usize, d: usize, i: usize, vars: usize) -> usize
-    requires { ⌜ (at ≤ end) × (end ≤ length (now s)) ⌝ }
-    ensures { λ r. ⌜ r ≡ refusalOf (headerOf (now (s .entry)) at end left d i vars) ⌝ }
+// The refusal of a record, before its own bytes and its parts are looked at, where d is due; or 0.
+fn refusal(
+    t: &[usize; 90],
+    room: usize,
+    left: usize,
+    d: usize,
+    dues: usize,
+    vars: usize,
+    size: usize,
+    kind: usize,
+) -> usize
+    requires { ⌜ (d < 32) × (size < 4294967296) ⌝ }
+    ensures { λ r. ⌜ r ≡ firstOf (short size room) (eqb left 0) (off (now (t .entry)) d kind) (full d dues or counts d kind and leb 512 vars) ⌝ }
 {
-    if no_frame(s, at, end) {
+    if size < 2 {
+        return 2;
+    }
+    if room < 4 + size {
         return 2;
     }
     if left == 0 {
         return 6;
     }
-    let kind = half(s, at + 4);
-    if not_due(d, kind) {
+    if not_due(t, d, kind) {
         return 3;
     }
-    if too_many(d, kind, i, vars) {
+    if too_many(d, kind, dues, vars) {
         return 7;
     }
-    if own(s, at + 6, at + 4 + word(s, at), kind) {
-        return 0;
-    }
-    5
+    0
 }
 
 // The count of parameters, Lets and Fors at the record's children: a Function starts anew.
@@ -142,76 +159,73 @@ fn vars_in(d: usize, kind: usize, vars: usize) -> usize
     if is_var(d, kind) { vars + 1 } else { vars }
 }
 
-// Name, Flag, Op and Int have no parts.
-fn is_leaf(kind: usize) -> bool
-    ensures { λ r. ⌜ r ≡ leaf kind ⌝ }
+// A fault as one number, above every count. Where nothing is due any record is one too many.
+fn fault(d: usize, number: usize, place: usize) -> usize
+    requires { ⌜ (number < 8) × (place < 4294967296) ⌝ }
+    ensures { λ r. ⌜ r ≡ faultOf d number place ⌝ }
 {
-    if kind == 64 {
-        return true;
+    if d == 0 {
+        return 4 * PARTS + place;
     }
-    if kind == 2 { false } else { kind < 16 }
+    number * PARTS + place
 }
 
-// No byte is left, and none is due.
-fn is_ended(due: usize, p: usize, end: usize) -> bool
-    ensures { λ r. ⌜ r ≡ ended due p end ⌝ }
-{
-    let c = class_of(due);
-    if p == end {
-        if c.3 { false } else { true }
-    } else {
-        false
-    }
-}
-
-// Checks the parts of a record of a kind where d was due, `left` levels being left for each. It calls itself on each that has parts.
+// Checks the parts of a record, `levels` being left for each; what is due in it is `dues`. It calls itself on each that has parts, but for
+// one that is the last and ends where the record does: its parts come next.
 fn check_record(
     s: &[u8],
+    t: &[usize; 90],
     from: usize,
     end: usize,
-    left: usize,
-    d: usize,
-    kind: usize,
+    levels: usize,
+    dues: usize,
     vars: usize,
-) -> Seen
-    requires { ⌜ (from ≤ end) × (end ≤ length (now s)) × (vars ≤ from) ⌝ }
-    ensures { λ r. ⌜ (r ≡ partsIn left (now (s .entry)) from end d kind vars) × Ends end r ⌝ }
+) -> usize
+    requires { ⌜ (from ≤ end) × (end ≤ length (now s)) × (end ≤ 65536) × (vars + 6 ≤ from) × Right (now t) ⌝ }
+    ensures { λ r. ⌜ Parts levels (now (s .entry)) from end dues vars r ⌝ }
 {
     let mut p = from;
+    let mut left = levels;
+    let mut w = dues;
     let mut n = vars;
-    let mut k = 0;
-    let mut dues = dues_of(d, kind);
     loop {
-        let due = dues % 32;
-        if is_ended(due, p, end) {
-            return Seen::Sound(end, n);
+        let d = w % 32;
+        if end - p < 6 {
+            if is_ended(d, p, end) {
+                return n;
+            }
+            return fault(d, 2, p);
         }
-        if due == 0 {
-            return Seen::Fault(4, p);
-        }
-        let no = refusal(s, p, end, left, due, k, n);
+        let size = word(s, p);
+        let kind = half(s, p + 4);
+        let no = refusal(t, end - p, left, d, w, n, size, kind);
         if no != 0 {
-            return Seen::Fault(no, p);
+            return fault(d, no, p);
         }
-        let part = half(s, p + 4);
-        let next = p + 4 + word(s, p);
-        dues = after_first(kind, dues);
-        if is_leaf(part) {
-            p = next;
-            k += 1;
+        let next = p + 4 + size;
+        w = after_first(d, w);
+        if is_leaf(t, kind) {
+            if own(s, p + 6, next, kind) {
+                p = next;
+                continue;
+            }
+            return fault(d, 5, p);
+        }
+        let inner = dues_of(t, d, kind);
+        let m = vars_in(d, kind, n);
+        if is_ended(w % 32, next, end) {
+            p += 6;
+            left -= 1;
+            w = inner;
+            n = m;
             continue;
         }
-        let seen = check_record(s, p + 6, next, left - 1, due, part, vars_in(due, part, n));
-        match seen {
-            Seen::Fault(no, place) => {
-                return Seen::Fault(no, place);
-            }
-            Seen::Sound(_, m) => {
-                p = next;
-                n = m;
-                k += 1;
-            }
+        let r = check_record(s, t, p + 6, next, left - 1, inner, m);
+        if MANY <= r {
+            return r;
         }
+        p = next;
+        n = r;
     }
 }
 
@@ -229,15 +243,14 @@ pub fn check(image: &[u8]) -> Seen
         return Seen::Fault(3, 0);
     }
     let next = 4 + word(image, 0);
-    let whole = check_record(image, 6, next, 63, CONTRACT, 16, 0);
-    match whole {
-        Seen::Fault(no, place) => Seen::Fault(no, place),
-        Seen::Sound(_, vars) => {
-            if next < image.len() {
-                Seen::Fault(4, next)
-            } else {
-                Seen::Sound(next, vars)
-            }
-        }
+    let t = TABLE;
+    let r = check_record(image, &t, 6, next, 63, CONTRACT_PARTS, 0);
+    if MANY <= r {
+        return Seen::Fault(r / PARTS, r % PARTS);
+    }
+    if next < image.len() {
+        Seen::Fault(4, next)
+    } else {
+        Seen::Sound(next, r)
     }
 }

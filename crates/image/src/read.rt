@@ -4,7 +4,7 @@ ghost use mathlib.Core.Bool.{true};
 ghost use Prim.Native.Nat.{_+_, _-_, _≤_, _<_, min};
 ghost use lib.ListN.{length};
 ghost use Rattle.rules.specs.Bytes.{le16, le32, nameByte, nameFrom};
-ghost use Rattle.image.specs.Names.{Fours};
+ghost use Rattle.image.specs.Names.{Fours, Named};
 
 pub fn wide(x: u8) -> usize
     ensures { λ r. ⌜ (r ≡ x) × (r < 256) ⌝ }
@@ -25,7 +25,7 @@ pub fn word(s: &[u8], at: usize) -> usize
     requires { ⌜ at + 4 ≤ length (now s) ⌝ }
     ensures { λ r. ⌜ (r ≡ le32 (now (s .entry)) at) × (r < 4294967296) ⌝ }
 {
-    half(s, at) + 65536 * half(s, at + 2)
+    wide(s[at]) + 256 * wide(s[at + 1]) + 65536 * wide(s[at + 2]) + 16777216 * wide(s[at + 3])
 }
 
 // A-Z a-z 0-9 _ :
@@ -86,6 +86,25 @@ fn fours_name(s: &[u8], p: usize, q: usize) -> bool
     (a ^ b ^ (c ^ d)) & 0x8080808080808080 == 0x8080808080808080
 }
 
+// The same of one to three bytes: the first, the middle and the last, with a fourth that is one of a name.
+fn few_name(s: &[u8], from: usize, to: usize) -> bool
+    requires { ⌜ (from < to) × (to ≤ from + 3) × (to ≤ length (now s)) ⌝ }
+    ensures { λ r. ⌜ (r ≡ true → Named (now (s .entry)) from to) ⌝ }
+{
+    let w = wide(s[from])
+        + 256 * wide(s[from + (to - from) / 2])
+        + 65536 * wide(s[to - 1])
+        + 0x30000000;
+    if w & 0x80808080 != 0 {
+        return false;
+    }
+    let a = (w + 0x50505050) ^ (w + 0x45454545);
+    let b = (w + 0x3f3f3f3f) ^ (w + 0x25252525);
+    let c = (w + 0x21212121) ^ (w + 0x20202020);
+    let d = (w + 0x1f1f1f1f) ^ (w + 0x05050505);
+    (a ^ b ^ (c ^ d)) & 0x80808080 == 0x80808080
+}
+
 fn least(a: usize, b: usize) -> usize
     ensures { λ r. ⌜ r ≡ min a b ⌝ }
 {
@@ -94,10 +113,13 @@ fn least(a: usize, b: usize) -> usize
 
 // The same of all the bytes, eight at a time; the last eight may have been seen in part. What that does not tell is told one by one.
 pub fn all_name(s: &[u8], from: usize, to: usize) -> bool
-    requires { ⌜ (from ≤ to) × (to ≤ length (now s)) ⌝ }
+    requires { ⌜ (from < to) × (to ≤ length (now s)) ⌝ }
     ensures { λ r. ⌜ r ≡ nameFrom (now (s .entry)) from (to - from) ⌝ }
 {
     if to - from < 4 {
+        if few_name(s, from, to) {
+            return true;
+        }
         return each_name(s, from, to);
     }
     let mut p = from;

@@ -15,19 +15,7 @@ use lib.Dec.{leb}
 use borrow.Author.Tests.{leb-true, leb-false}
 use Rattle.rules.specs.Lent.{over}
 use Rattle.lent.specs.Over.{length-over, over-more, getD-over-past}
-use Rattle.link.specs.Linked.{linked, linkedFrom}
-
-length-linked : (F : List ℕ) (i : ℕ) (ws : List ℕ) → length (linkedFrom F i ws) ≡ length ws
-unfolding linkedFrom
-length-linked F i [] = refl
-length-linked F i (w ∷ ws) = ap suc (length-linked F (suc i) ws)
-
-linked-more : (F : List ℕ) (i : ℕ) (ws : List ℕ) (w : ℕ) → linkedFrom F i (ws ++ w ∷ []) ≡ linkedFrom F i ws ++ linked F (i + length ws) w ∷ []
-unfolding linkedFrom
-linked-more F i [] w = ap (λ (k : ℕ). linked F k w ∷ []) (sym (add-zero i))
-linked-more F i (x ∷ ws) w =
-    ap (λ (l : List ℕ). linked F i x ∷ l) (linked-more F (suc i) ws w
-    ∙ ap (λ (k : ℕ). linkedFrom F (suc i) ws ++ linked F k w ∷ []) (suc-add i (length ws) ∙ sym (add-suc i (length ws))))
+use Rattle.link.specs.Linked.{linked, linkedFrom, length-linked, linked-more}
 
 pub record Linking (F c₀ : List ℕ) (end : ℕ) (c : List ℕ) (i : ℕ) : Type 0 where
   pub within : i ≤ end

@@ -1,8 +1,10 @@
 -- The numbers that stand in the slice once every function is placed (000: generate, the loop over unpatched_calls).
---     linked       one of them; linkedFrom: from index i on
+--     linked       one of them; linkedFrom: from index i on: length-linked, linked-more
 -- Assumes nothing.
-use mathlib.Core.List.{List, [], _∷_}
-use Prim.Native.Nat.{ℕ, suc, _-_, _%_, _^_}
+use mathlib.Core.Path.{_≡_, refl, sym, ap, _∙_}
+use mathlib.Core.List.{List, [], _∷_, _++_}
+use Prim.Native.Nat.{ℕ, suc, _+_, _-_, _%_, _^_}
+use native.Mathlib.Nat.{add-zero, add-suc, suc-add}
 use lib.Dec.{leb, ltb}
 use lib.ListN.{length, getD}
 use Rattle.isa.specs.declared.Opcode.the-variants as op
@@ -18,6 +20,21 @@ distanceTo F i k = pick (ltb k (length F)) (offsetOf (getD F k 0 % 2 ^ 32) (i % 
 unfoldable pub linked : (firsts : List ℕ) (own w : ℕ) → ℕ
 linked F i w = pick (leb (2 ^ 63) w) (wordOf op.Call 0 0 0 (distanceTo F i (w - 2 ^ 63))) w
 
+-- Those from an index on.
 unfoldable pub linkedFrom : (firsts : List ℕ) (own : ℕ) → List ℕ → List ℕ
 linkedFrom F i [] = []
 linkedFrom F i (w ∷ ws) = linked F i w ∷ linkedFrom F (suc i) ws
+
+-- As many as there were.
+pub length-linked : (F : List ℕ) (i : ℕ) (ws : List ℕ) → length (linkedFrom F i ws) ≡ length ws
+unfolding linkedFrom
+length-linked F i [] = refl
+length-linked F i (w ∷ ws) = ap suc (length-linked F (suc i) ws)
+
+-- One more behind them.
+pub linked-more : (F : List ℕ) (i : ℕ) (ws : List ℕ) (w : ℕ) → linkedFrom F i (ws ++ w ∷ []) ≡ linkedFrom F i ws ++ linked F (i + length ws) w ∷ []
+unfolding linkedFrom
+linked-more F i [] w = ap (λ (k : ℕ). linked F k w ∷ []) (sym (add-zero i))
+linked-more F i (x ∷ ws) w =
+    ap (λ (l : List ℕ). linked F i x ∷ l) (linked-more F (suc i) ws w
+    ∙ ap (λ (k : ℕ). linkedFrom F (suc i) ws ++ linked F k w ∷ []) (suc-add i (length ws) ∙ sym (add-suc i (length ws))))

@@ -203,22 +203,6 @@ fn last_named(img: &[u8], at: usize, end: usize, left: usize, x: usize) -> Where
     best
 }
 
-// How many records stand from at to end, left at most.
-fn count_from(img: &[u8], at: usize, end: usize, left: usize) -> usize
-    ensures { λ r. ⌜ r ≡ length (placesFrom left (now (img .entry)) at end) ⌝ }
-{
-    let mut p = at;
-    let mut n = 0;
-    while n < left {
-        if end <= p {
-            return n;
-        }
-        p = records::past(img, p);
-        n += 1;
-    }
-    n
-}
-
 fn cell(a: &[usize], i: usize) -> usize
     ensures { λ r. ⌜ r ≡ getD (now (a .entry)) i 0 ⌝ }
 {
@@ -388,7 +372,7 @@ fn due_count(img: &[u8], due: Due) -> usize
 {
     match due {
         Due::Words(k) => k,
-        Due::Fields(at, end, left) => count_from(img, at, end, left),
+        Due::Fields(at, end, left) => records::count(img, at, end, left),
     }
 }
 

@@ -28,7 +28,7 @@ use Rattle.ambiguous.proofs.+in_access+in_args+in_expr+in_inits+in_two.
 use Rattle.ambiguous.proofs.in_two.Reads as in-two
 use Rattle.ambiguous.proofs.in_two.Kinds as in-two-kinds
 use Rattle.ambiguous.proofs.+in_access+in_args+in_expr+in_inits+in_two.Lts-in_two as in-two-lts
-use Rattle.ambiguous.proofs.fields.is_ambiguous.Reads as is-ambiguous-reads
+use Rattle.ambiguous.proofs.apart.is_ambiguous.Reads as is-ambiguous-reads
 use Rattle.ambiguous.proofs.second.Reads as second-reads
 use Rattle.records.proofs.body.Reads as body-reads
 use Rattle.records.proofs.kind.Reads as kind-reads

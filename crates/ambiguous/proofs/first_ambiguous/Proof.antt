@@ -1,6 +1,6 @@
 -- first_ambiguous meets its contract.
 -- Assumes nothing.
-use Rattle.ambiguous.proofs.Positions.{alone}
+use Rattle.ambiguous.proofs.Clashes.{alone}
 use Rattle.ambiguous.proofs.Walk.{no-ambiguous}
 use Rattle.ambiguous.specs.Spots.{spotOf}
 use Rattle.rules.specs.Read.{contractAt}

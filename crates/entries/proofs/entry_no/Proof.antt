@@ -13,7 +13,7 @@ use Rattle.entries.proofs.entry_no.Statement.{statement}
 use Rattle.entries.proofs.entry_no.Tie as tie
 use Rattle.entries.proofs.entry_no.Reads as reads
 use Rattle.entries.proofs.entry_no.Lts as lts
-use Rattle.entries.proofs.param_count.Reads as param-count-reads
+use Rattle.compiler.proofs.table.param_count.Reads as param-count-reads
 use Rattle.tables.proofs.function_place.Reads as function-place-reads
 
 is-entry : (img F : List ℕ) (k place first params : ℕ) → place ≡ getD (functionsIn img) k 0 → first ≡ getD F k 0 → params ≡ length (functionAt img place .params)

@@ -49,18 +49,17 @@ use Rattle.expr.proofs.gen_ident.Reads as gen-ident-reads
 use Rattle.expr.proofs.gen_int.Reads as gen-int-reads
 use Rattle.expr.proofs.gen_storage.Reads as gen-storage-reads
 use Rattle.expr.proofs.names.builtin_named.Reads as builtin-named-reads
-use Rattle.expr.proofs.names.field_offset.Reads as field-offset-reads
+use Rattle.fields.proofs.field_offset.Reads as field-offset-reads
 use Rattle.expr.proofs.names.function_index.Reads as function-index-reads
 use Rattle.expr.proofs.steps.close_call.Reads as close-call-reads
 use Rattle.expr.proofs.steps.close_literal.Reads as close-literal-reads
 use Rattle.expr.proofs.steps.combine.Reads as combine-reads
-use Rattle.expr.proofs.steps.keep.Reads as keep-reads
 use Rattle.expr.proofs.steps.less_one.Reads as less-one-reads
 use Rattle.expr.proofs.steps.opcode.Reads as opcode-reads
 use Rattle.expr.proofs.steps.push_up.Reads as push-up-reads
 use Rattle.expr.proofs.steps.read_mapping.Reads as read-mapping-reads
 use Rattle.expr.proofs.steps.unheard.Reads as unheard-reads
-use Rattle.expr.proofs.steps.value_at.Reads as value-at-reads
+use Rattle.expr.proofs.steps.reg_at.Reads as reg-at-reads
 use Rattle.expr.proofs.storage_slot.Reads as storage-slot-reads
 use Rattle.records.proofs.body.Reads as body-reads
 use Rattle.records.proofs.kind.Reads as kind-reads
@@ -68,18 +67,18 @@ use Rattle.records.proofs.op.Reads as op-reads
 use Rattle.records.proofs.past.Reads as past-reads
 use Rattle.expr.proofs.+gen_args+gen_binary+gen_call+gen_expr+gen_field+gen_inits+gen_list+gen_literal+gen_mapping+gen_merkle+gen_poseidon+gen_syscall+gen_user.{statement}
 use Rattle.expr.proofs.+gen_args+gen_binary+gen_call+gen_expr+gen_field+gen_inits+gen_list+gen_literal+gen_mapping+gen_merkle+gen_poseidon+gen_syscall+gen_user.Tie.{close}
-use Rattle.expr.proofs.+gen_args+gen_binary+gen_call+gen_expr+gen_field+gen_inits+gen_list+gen_literal+gen_mapping+gen_merkle+gen_poseidon+gen_syscall+gen_user.Proof.Common.{μ-gen-args, μ-gen-binary, μ-gen-call, μ-gen-expr, μ-gen-field, μ-gen-inits, μ-gen-list, μ-gen-literal, μ-gen-mapping, μ-gen-merkle, μ-gen-poseidon, μ-gen-syscall, μ-gen-user, gen-args-at, gen-args-below, gen-binary-at, gen-binary-below, gen-call-at, gen-call-below, gen-expr-at, gen-expr-below, gen-field-at, gen-field-below, gen-inits-at, gen-inits-below, gen-list-at, gen-list-below, gen-literal-at, gen-literal-below, gen-mapping-at, gen-mapping-below, gen-merkle-at, gen-merkle-below, gen-poseidon-at, gen-poseidon-below, gen-syscall-at, gen-syscall-below, gen-user-at, gen-user-below}
-use Rattle.expr.proofs.+gen_args+gen_binary+gen_call+gen_expr+gen_field+gen_inits+gen_list+gen_literal+gen_mapping+gen_merkle+gen_poseidon+gen_syscall+gen_user.Proof.GenArgs.{gen-args-returns, gen-args-returns-2, gen-args-gen-expr-requires, gen-args-keep-requires, gen-args-past-requires, gen-args-add-gen-args, gen-args-gen-args-requires, gen-args-same-length, gen-args-returns-3}
+use Rattle.expr.proofs.+gen_args+gen_binary+gen_call+gen_expr+gen_field+gen_inits+gen_list+gen_literal+gen_mapping+gen_merkle+gen_poseidon+gen_syscall+gen_user.Proof.Common.{μ-gen-args, μ-gen-binary, μ-gen-call, μ-gen-expr, μ-gen-field, μ-gen-inits, μ-gen-list, μ-gen-literal, μ-gen-mapping, μ-gen-merkle, μ-gen-poseidon, μ-gen-syscall, μ-gen-user, gen-args-at, gen-args-below, gen-args-told, gen-binary-at, gen-binary-below, gen-call-at, gen-call-below, gen-expr-at, gen-expr-below, gen-field-at, gen-field-below, gen-inits-at, gen-inits-below, gen-inits-told, gen-list-at, gen-list-below, gen-literal-at, gen-literal-below, gen-mapping-at, gen-mapping-below, gen-merkle-at, gen-merkle-below, gen-poseidon-at, gen-poseidon-below, gen-syscall-at, gen-syscall-below, gen-user-at, gen-user-below}
+use Rattle.expr.proofs.+gen_args+gen_binary+gen_call+gen_expr+gen_field+gen_inits+gen_list+gen_literal+gen_mapping+gen_merkle+gen_poseidon+gen_syscall+gen_user.Proof.GenArgs.{gen-args-Inv-loop, gen-args-μ-loop, gen-args-loop-holds, gen-args-gen-expr-requires, gen-args-keep-requires, gen-args-past-requires, gen-args-loop-less, gen-args-loop-again, gen-args-same-length, gen-args-returns, gen-args-same-length-2, gen-args-returns-2}
 use Rattle.expr.proofs.+gen_args+gen_binary+gen_call+gen_expr+gen_field+gen_inits+gen_list+gen_literal+gen_mapping+gen_merkle+gen_poseidon+gen_syscall+gen_user.Proof.GenBinary.{gen-binary-body-requires, gen-binary-past-requires, gen-binary-past-requires-2, gen-binary-gen-expr-requires, gen-binary-gen-expr-requires-2, gen-binary-op-requires, gen-binary-opcode-requires, gen-binary-combine-requires, gen-binary-same-length, gen-binary-returns}
 use Rattle.expr.proofs.+gen_args+gen_binary+gen_call+gen_expr+gen_field+gen_inits+gen_list+gen_literal+gen_mapping+gen_merkle+gen_poseidon+gen_syscall+gen_user.Proof.GenCall.{gen-call-body-requires, gen-call-builtin-named-requires, gen-call-enum-told, gen-call-gen-poseidon-requires, gen-call-enum-told-2, gen-call-gen-syscall-requires, gen-call-enum-told-3, gen-call-gen-syscall-requires-2, gen-call-enum-told-4, gen-call-gen-syscall-requires-3, gen-call-enum-told-5, gen-call-gen-merkle-requires, gen-call-enum-told-6, gen-call-gen-user-requires, gen-call-same-length, gen-call-returns, gen-call-same-length-2, gen-call-returns-2, gen-call-same-length-3, gen-call-returns-3, gen-call-same-length-4, gen-call-returns-4, gen-call-same-length-5, gen-call-returns-5, gen-call-same-length-6, gen-call-returns-6}
 use Rattle.expr.proofs.+gen_args+gen_binary+gen_call+gen_expr+gen_field+gen_inits+gen_list+gen_literal+gen_mapping+gen_merkle+gen_poseidon+gen_syscall+gen_user.Proof.GenExpr.{gen-expr-with-requires, gen-expr-returns, gen-expr-kind-requires, gen-expr-gen-int-requires, gen-expr-gen-ident-requires, gen-expr-gen-storage-requires, gen-expr-sub-gen-mapping, gen-expr-gen-mapping-requires, gen-expr-sub-gen-field, gen-expr-gen-field-requires, gen-expr-sub-gen-literal, gen-expr-gen-literal-requires, gen-expr-sub-gen-binary, gen-expr-gen-binary-requires, gen-expr-sub-gen-call, gen-expr-gen-call-requires, gen-expr-with-requires-2, gen-expr-same-length, gen-expr-returns-2, gen-expr-returns-3, gen-expr-same-length-2, gen-expr-returns-4, gen-expr-same-length-3, gen-expr-returns-5, gen-expr-same-length-4, gen-expr-returns-6, gen-expr-same-length-5, gen-expr-returns-7, gen-expr-same-length-6, gen-expr-returns-8, gen-expr-same-length-7, gen-expr-returns-9, gen-expr-returns-10}
 use Rattle.expr.proofs.+gen_args+gen_binary+gen_call+gen_expr+gen_field+gen_inits+gen_list+gen_literal+gen_mapping+gen_merkle+gen_poseidon+gen_syscall+gen_user.Proof.GenField.{gen-field-body-requires, gen-field-gen-expr-requires, gen-field-past-requires, gen-field-field-offset-requires, gen-field-emit-new-requires, gen-field-same-length, gen-field-returns}
-use Rattle.expr.proofs.+gen_args+gen_binary+gen_call+gen_expr+gen_field+gen_inits+gen_list+gen_literal+gen_mapping+gen_merkle+gen_poseidon+gen_syscall+gen_user.Proof.GenInits.{gen-inits-returns, gen-inits-returns-2, gen-inits-body-requires, gen-inits-past-requires, gen-inits-gen-expr-requires, gen-inits-keep-requires, gen-inits-past-requires-2, gen-inits-add-gen-inits, gen-inits-gen-inits-requires, gen-inits-same-length, gen-inits-returns-3}
+use Rattle.expr.proofs.+gen_args+gen_binary+gen_call+gen_expr+gen_field+gen_inits+gen_list+gen_literal+gen_mapping+gen_merkle+gen_poseidon+gen_syscall+gen_user.Proof.GenInits.{gen-inits-Inv-loop, gen-inits-μ-loop, gen-inits-loop-holds, gen-inits-body-requires, gen-inits-past-requires, gen-inits-gen-expr-requires, gen-inits-keep-requires, gen-inits-past-requires-2, gen-inits-loop-less, gen-inits-loop-again, gen-inits-same-length, gen-inits-returns, gen-inits-same-length-2, gen-inits-returns-2}
 use Rattle.expr.proofs.+gen_args+gen_binary+gen_call+gen_expr+gen_field+gen_inits+gen_list+gen_literal+gen_mapping+gen_merkle+gen_poseidon+gen_syscall+gen_user.Proof.GenList.{gen-list-body-requires, gen-list-past-requires, gen-list-body-requires-2, gen-list-past-requires-2, gen-list-gen-args-requires, gen-list-same-length, gen-list-returns}
 use Rattle.expr.proofs.+gen_args+gen_binary+gen_call+gen_expr+gen_field+gen_inits+gen_list+gen_literal+gen_mapping+gen_merkle+gen_poseidon+gen_syscall+gen_user.Proof.GenLiteral.{gen-literal-body-requires, gen-literal-past-requires, gen-literal-body-requires-2, gen-literal-past-requires-2, gen-literal-heap-requires, gen-literal-emit-new-requires, gen-literal-gen-inits-requires, gen-literal-close-literal-requires, gen-literal-same-length, gen-literal-returns}
 use Rattle.expr.proofs.+gen_args+gen_binary+gen_call+gen_expr+gen_field+gen_inits+gen_list+gen_literal+gen_mapping+gen_merkle+gen_poseidon+gen_syscall+gen_user.Proof.GenMapping.{gen-mapping-body-requires, gen-mapping-storage-slot-requires, gen-mapping-past-requires, gen-mapping-gen-expr-requires, gen-mapping-read-mapping-requires, gen-mapping-same-length, gen-mapping-returns}
-use Rattle.expr.proofs.+gen_args+gen_binary+gen_call+gen_expr+gen_field+gen_inits+gen_list+gen_literal+gen_mapping+gen_merkle+gen_poseidon+gen_syscall+gen_user.Proof.GenMerkle.{gen-merkle-gen-list-requires, gen-merkle-value-at-requires, gen-merkle-value-at-requires-2, gen-merkle-value-at-requires-3, gen-merkle-wide-requires, gen-merkle-emit-new-requires, gen-merkle-same-length, gen-merkle-returns}
-use Rattle.expr.proofs.+gen_args+gen_binary+gen_call+gen_expr+gen_field+gen_inits+gen_list+gen_literal+gen_mapping+gen_merkle+gen_poseidon+gen_syscall+gen_user.Proof.GenPoseidon.{gen-poseidon-gen-list-requires, gen-poseidon-value-at-requires, gen-poseidon-value-at-requires-2, gen-poseidon-combine-requires, gen-poseidon-same-length, gen-poseidon-returns}
+use Rattle.expr.proofs.+gen_args+gen_binary+gen_call+gen_expr+gen_field+gen_inits+gen_list+gen_literal+gen_mapping+gen_merkle+gen_poseidon+gen_syscall+gen_user.Proof.GenMerkle.{gen-merkle-gen-list-requires, gen-merkle-reg-at-requires, gen-merkle-reg-at-requires-2, gen-merkle-reg-at-requires-3, gen-merkle-wide-requires, gen-merkle-emit-new-requires, gen-merkle-same-length, gen-merkle-returns}
+use Rattle.expr.proofs.+gen_args+gen_binary+gen_call+gen_expr+gen_field+gen_inits+gen_list+gen_literal+gen_mapping+gen_merkle+gen_poseidon+gen_syscall+gen_user.Proof.GenPoseidon.{gen-poseidon-gen-list-requires, gen-poseidon-reg-at-requires, gen-poseidon-reg-at-requires-2, gen-poseidon-combine-requires, gen-poseidon-same-length, gen-poseidon-returns}
 use Rattle.expr.proofs.+gen_args+gen_binary+gen_call+gen_expr+gen_field+gen_inits+gen_list+gen_literal+gen_mapping+gen_merkle+gen_poseidon+gen_syscall+gen_user.Proof.GenSyscall.{gen-syscall-slice-aggregate-gen-list, gen-syscall-gen-list-requires, gen-syscall-unheard-requires, gen-syscall-emit-new-requires, gen-syscall-same-length, gen-syscall-returns}
 use Rattle.expr.proofs.+gen_args+gen_binary+gen_call+gen_expr+gen_field+gen_inits+gen_list+gen_literal+gen_mapping+gen_merkle+gen_poseidon+gen_syscall+gen_user.Proof.GenUser.{gen-user-less-one-requires, gen-user-push-up-requires, gen-user-gen-list-requires, gen-user-body-requires, gen-user-function-index-requires, gen-user-close-call-requires, gen-user-same-length, gen-user-returns}
 
@@ -100,27 +99,22 @@ pub +gen-args+gen-binary+gen-call+gen-expr+gen-field+gen-inits+gen-list+gen-lite
     μ-gen-poseidon
     μ-gen-syscall
     μ-gen-user
-    (λ t. gen-args-lts.spec (
-      gen-expr-below t,
-      gen-expr.Post,
-      keep-reads.Asked,
-      keep-reads.Learnt,
-      past-reads.Asked,
-      past-reads.Learnt,
-      gen-args-below t,
-      gen-args.Post,
-    )
+    (λ t. gen-args-lts.spec
+    (gen-args-told t)
     (gen-args-at t)
     gen-args.Post
-    (gen-args-returns t)
-    (gen-args-returns-2 t)
+    gen-args-Inv-loop
+    gen-args-μ-loop
+    (gen-args-loop-holds t)
     (gen-args-gen-expr-requires t)
     (gen-args-keep-requires t)
     (gen-args-past-requires t)
-    (gen-args-add-gen-args t)
-    (gen-args-gen-args-requires t)
+    (gen-args-loop-less t)
+    (gen-args-loop-again t)
     (gen-args-same-length t)
-    (gen-args-returns-3 t))
+    (gen-args-returns t)
+    (gen-args-same-length-2 t)
+    (gen-args-returns-2 t))
     (λ t. gen-binary-lts.spec (
       body-reads.Asked,
       body-reads.Learnt,
@@ -267,31 +261,24 @@ pub +gen-args+gen-binary+gen-call+gen-expr+gen-field+gen-inits+gen-list+gen-lite
     (gen-field-emit-new-requires t)
     (gen-field-same-length t)
     (gen-field-returns t))
-    (λ t. gen-inits-lts.spec (
-      body-reads.Asked,
-      body-reads.Learnt,
-      past-reads.Asked,
-      past-reads.Learnt,
-      gen-expr-below t,
-      gen-expr.Post,
-      keep-reads.Asked,
-      keep-reads.Learnt,
-      gen-inits-below t,
-      gen-inits.Post,
-    )
+    (λ t. gen-inits-lts.spec
+    (gen-inits-told t)
     (gen-inits-at t)
     gen-inits.Post
-    (gen-inits-returns t)
-    (gen-inits-returns-2 t)
+    gen-inits-Inv-loop
+    gen-inits-μ-loop
+    (gen-inits-loop-holds t)
     (gen-inits-body-requires t)
     (gen-inits-past-requires t)
     (gen-inits-gen-expr-requires t)
     (gen-inits-keep-requires t)
     (gen-inits-past-requires-2 t)
-    (gen-inits-add-gen-inits t)
-    (gen-inits-gen-inits-requires t)
+    (gen-inits-loop-less t)
+    (gen-inits-loop-again t)
     (gen-inits-same-length t)
-    (gen-inits-returns-3 t))
+    (gen-inits-returns t)
+    (gen-inits-same-length-2 t)
+    (gen-inits-returns-2 t))
     (λ t. gen-list-lts.spec (
       body-reads.Asked,
       body-reads.Learnt,
@@ -359,8 +346,8 @@ pub +gen-args+gen-binary+gen-call+gen-expr+gen-field+gen-inits+gen-list+gen-lite
     (λ t. gen-merkle-lts.spec (
       gen-list-below t,
       gen-list.Post,
-      value-at-reads.Asked,
-      value-at-reads.Learnt,
+      reg-at-reads.Asked,
+      reg-at-reads.Learnt,
       wide-reads.Asked,
       wide-reads.Learnt,
       emit-new-reads.Asked,
@@ -369,9 +356,9 @@ pub +gen-args+gen-binary+gen-call+gen-expr+gen-field+gen-inits+gen-list+gen-lite
     (gen-merkle-at t)
     gen-merkle.Post
     (gen-merkle-gen-list-requires t)
-    (gen-merkle-value-at-requires t)
-    (gen-merkle-value-at-requires-2 t)
-    (gen-merkle-value-at-requires-3 t)
+    (gen-merkle-reg-at-requires t)
+    (gen-merkle-reg-at-requires-2 t)
+    (gen-merkle-reg-at-requires-3 t)
     (gen-merkle-wide-requires t)
     (gen-merkle-emit-new-requires t)
     (gen-merkle-same-length t)
@@ -379,16 +366,16 @@ pub +gen-args+gen-binary+gen-call+gen-expr+gen-field+gen-inits+gen-list+gen-lite
     (λ t. gen-poseidon-lts.spec (
       gen-list-below t,
       gen-list.Post,
-      value-at-reads.Asked,
-      value-at-reads.Learnt,
+      reg-at-reads.Asked,
+      reg-at-reads.Learnt,
       combine-reads.Asked,
       combine-reads.Learnt,
     )
     (gen-poseidon-at t)
     gen-poseidon.Post
     (gen-poseidon-gen-list-requires t)
-    (gen-poseidon-value-at-requires t)
-    (gen-poseidon-value-at-requires-2 t)
+    (gen-poseidon-reg-at-requires t)
+    (gen-poseidon-reg-at-requires-2 t)
     (gen-poseidon-combine-requires t)
     (gen-poseidon-same-length t)
     (gen-poseidon-returns t))

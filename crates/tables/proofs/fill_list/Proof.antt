@@ -2,12 +2,13 @@
 -- Assumes nothing.
 use mathlib.Core.Logic.{⊎-elim}
 use mathlib.Core.Path.{_≡_}
-use Prim.Native.Nat.{_+_, _-_, _≤_}
+use Prim.Native.Nat.{_+_, _-_, _*_, _%_, _≤_}
 use native.Mathlib.Omega.{arith}
 use borrow.Author.Tests.{ltb-true, ltb-false}
 use lib.ListN.{length-set}
-use Rattle.rules.specs.Read.{placesIn, placesFrom}
-use Rattle.tables.proofs.Fill.{Filled, begin, put, done, places-zero, places-end, places-more}
+use Rattle.rules.specs.Read.{nameIn, placesIn, placesFrom}
+use Rattle.records.specs.Keys.{keyOf}
+use Rattle.tables.proofs.Fill.{Filled, stored, begin, put, done, places-zero, places-end, places-more}
 use borrow.Author.Needs.{needs}
 use Rattle.tables.proofs.fill_list.Statement.{statement}
 use Rattle.tables.proofs.fill_list.Tie as tie
@@ -18,6 +19,9 @@ Inv-loop t₀ base most img l end p₀ n₀ t p n = (n ≤ most) × Filled img t
 abbrev μ-loop : tie.MeasureT-loop
 μ-loop t₀ base most img l end p₀ n₀ t p n = most - n
 
+clear-heads-requires : tie.Need-clear-heads-requires Inv-loop μ-loop
+clear-heads-requires c κs = search needs
+
 past-requires : tie.Need-past-requires Inv-loop μ-loop
 past-requires c κs = search needs
 
@@ -25,7 +29,7 @@ body-requires : tie.Need-body-requires Inv-loop μ-loop
 body-requires c κs = search needs
 
 loop-holds : tie.Need-loop-holds Inv-loop μ-loop
-loop-holds c = (omega arith, let z : c .before .before .before .before .args .most - 0 ≡ c .before .before .before .before .args .most = omega arith in rw (z, c .body .ensures .0, c .before .past .ensures .0) (begin (c .before .before .before .before .args .img .now) (c .before .before .before .before .args .t .now) (c .before .before .before .before .args .base) (placesIn (c .before .before .before .before .args .most) (c .before .before .before .before .args .img .now) (c .before .before .before .before .args .l))))
+loop-holds c = (omega arith, let z : c .before .before .before .before .before .before .before .before .args .most - 0 ≡ c .before .before .before .before .before .before .before .before .args .most = omega arith in rw (z, c .body .ensures .0, c .before .past .ensures .0) (begin (c .before .before .before .before .before .before .before .before .args .img .now) (c .before .before .before .before .clear-heads .last .0) (c .before .before .before .before .before .before .before .before .args .base) (placesIn (c .before .before .before .before .before .before .before .before .args .most) (c .before .before .before .before .before .before .before .before .args .img .now) (c .before .before .before .before .before .before .before .before .args .l)) (c .before .before .before .before .clear-heads .ensures .heads)))
 
 body-requires-2 : tie.Need-body-requires-2 Inv-loop μ-loop
 body-requires-2 c κs = search needs
@@ -33,35 +37,59 @@ body-requires-2 c κs = search needs
 name-key-requires : tie.Need-name-key-requires Inv-loop μ-loop
 name-key-requires c κs = search needs
 
-add-t : tie.Need-add-t Inv-loop μ-loop
-add-t c = search needs
+add-head : tie.Need-add-head Inv-loop μ-loop
+add-head c = search needs
+
+add-head-2 : tie.Need-add-head-2 Inv-loop μ-loop
+add-head-2 c = search needs
+
+add-at : tie.Need-add-at Inv-loop μ-loop
+add-at c = search needs
+
+mul-at : tie.Need-mul-at Inv-loop μ-loop
+mul-at c = search needs
+
+add-at-2 : tie.Need-add-at-2 Inv-loop μ-loop
+add-at-2 c = search needs
 
 mul-t : tie.Need-mul-t Inv-loop μ-loop
 mul-t c = search needs
 
-add-t-2 : tie.Need-add-t-2 Inv-loop μ-loop
-add-t-2 c = search needs
+slice-write-t : tie.Need-slice-write-t Inv-loop μ-loop
+slice-write-t c = omega (arith, c .before .before .before .before .loop .inv .1 .above .size, c .before .before .before .before .before .before .before .before .before .clear-heads .ensures .above .size)
+
+add-t : tie.Need-add-t Inv-loop μ-loop
+add-t c = search needs
 
 mul-t-2 : tie.Need-mul-t-2 Inv-loop μ-loop
 mul-t-2 c = search needs
 
-slice-write-t : tie.Need-slice-write-t Inv-loop μ-loop
-slice-write-t c = search needs
-
-add-t-3 : tie.Need-add-t-3 Inv-loop μ-loop
-add-t-3 c = search needs
+slice-write-t-2 : tie.Need-slice-write-t-2 Inv-loop μ-loop
+slice-write-t-2 c = simp length-set (omega (arith, c .before .before .before .before .loop .inv .1 .above .size, c .before .before .before .before .before .before .before .before .before .clear-heads .ensures .above .size))
 
 mul-t-3 : tie.Need-mul-t-3 Inv-loop μ-loop
 mul-t-3 c = search needs
 
-add-t-4 : tie.Need-add-t-4 Inv-loop μ-loop
-add-t-4 c = search needs
+slice-read-t : tie.Need-slice-read-t Inv-loop μ-loop
+slice-read-t c = simp length-set (omega (arith, c .before .before .before .before .before .loop .inv .1 .above .size, c .before .before .before .before .before .before .before .before .before .before .clear-heads .ensures .above .size))
+
+add-t-2 : tie.Need-add-t-2 Inv-loop μ-loop
+add-t-2 c = search needs
 
 mul-t-4 : tie.Need-mul-t-4 Inv-loop μ-loop
 mul-t-4 c = search needs
 
-slice-write-t-2 : tie.Need-slice-write-t-2 Inv-loop μ-loop
-slice-write-t-2 c = simp length-set (omega arith)
+slice-write-t-3 : tie.Need-slice-write-t-3 Inv-loop μ-loop
+slice-write-t-3 c = simp length-set (omega (arith, c .before .before .before .before .before .loop .inv .1 .above .size, c .before .before .before .before .before .before .before .before .before .before .clear-heads .ensures .above .size))
+
+add-t-3 : tie.Need-add-t-3 Inv-loop μ-loop
+add-t-3 c = search needs
+
+mul-t-5 : tie.Need-mul-t-5 Inv-loop μ-loop
+mul-t-5 c = search needs
+
+slice-write-t-4 : tie.Need-slice-write-t-4 Inv-loop μ-loop
+slice-write-t-4 c = simp length-set (omega (arith, c .before .before .before .before .before .loop .inv .1 .above .size, c .before .before .before .before .before .before .before .before .before .before .clear-heads .ensures .above .size))
 
 past-requires-2 : tie.Need-past-requires-2 Inv-loop μ-loop
 past-requires-2 c κs = search needs
@@ -75,27 +103,28 @@ loop-less c = omega arith
 loop-again : tie.Need-loop-again Inv-loop μ-loop
 loop-again c = (
   omega arith,
-  rw (c .past2 .ensures .0, c .before .name-key .ensures, c .before .before .body2 .ensures .0)
-      (put (c .before .before .before .before .before .before .before .before .before .before .args .img .now) (c .before .before .before .before .before .before .before .before .before .before .args .t .now) (c .before .before .before .before .before .before .before .before .before .before .args .base) (placesIn (c .before .before .before .before .before .before .before .before .before .before .args .most) (c .before .before .before .before .before .before .before .before .before .before .args .img .now) (c .before .before .before .before .before .before .before .before .before .before .args .l)) (c .before .before .before .before .before .loop .t) _ _ (c .before .before .before .before .before .loop .n) (c .before .before .before .before .before .loop .p)
-      (places-more (c .before .before .before .before .before .before .before .before .before .before .args .img .now) (c .before .before .before .before .before .before .before .before .before .before .args .most - c .before .before .before .before .before .loop .n) (c .before .before .before .before .before .before .before .before .before .before .args .most - (c .before .before .before .before .before .loop .n + 1)) (c .before .before .before .before .before .loop .p) (c .before .before .before .before .before .before .before .past .result) (omega arith) (ltb-true _ _ (c .before .before .before .if1 .taken)))
-      (omega (arith, c .before .before .before .before .before .loop .inv .1 .size))
-      (c .before .before .before .before .before .loop .inv .1)),
+  rw (c .past2 .ensures .0, c .before .before .name-key .ensures, c .before .before .before .body2 .ensures .0)
+      (put (c .before .before .before .before .before .before .before .before .before .before .before .before .before .before .before .args .img .now) (c .before .before .before .before .before .before .before .before .before .before .before .clear-heads .last .0) (c .before .before .before .before .before .before .before .before .before .before .before .before .before .before .before .args .base) (placesIn (c .before .before .before .before .before .before .before .before .before .before .before .before .before .before .before .args .most) (c .before .before .before .before .before .before .before .before .before .before .before .before .before .before .before .args .img .now) (c .before .before .before .before .before .before .before .before .before .before .before .before .before .before .before .args .l)) (c .before .before .before .before .before .before .loop .t) _ _ (c .before .before .before .before .before .before .loop .n) (c .before .before .before .before .before .before .loop .p) _
+      (places-more (c .before .before .before .before .before .before .before .before .before .before .before .before .before .before .before .args .img .now) (c .before .before .before .before .before .before .before .before .before .before .before .before .before .before .before .args .most - c .before .before .before .before .before .before .loop .n) (c .before .before .before .before .before .before .before .before .before .before .before .before .before .before .before .args .most - (c .before .before .before .before .before .before .loop .n + 1)) (c .before .before .before .before .before .before .loop .p) (c .before .before .before .before .before .before .before .before .past .result) (omega arith) (ltb-true _ _ (c .before .before .before .before .if1 .taken)))
+      (c .before .before .before .before .before .before .loop .inv .1)
+      (stored (c .before .before .before .before .before .before .loop .t) (c .before .before .before .before .before .before .before .before .before .before .before .before .before .before .before .args .base + 32 + 3 * c .before .before .before .before .before .before .loop .n) (c .before .before .before .before .before .before .before .before .before .before .before .before .before .before .before .args .base + 1 + keyOf (nameIn (c .before .before .before .before .before .before .before .before .before .before .before .before .before .before .before .args .img .now) (c .before .before .before .before .before .before .loop .p)) % 31) (keyOf (nameIn (c .before .before .before .before .before .before .before .before .before .before .before .before .before .before .before .args .img .now) (c .before .before .before .before .before .before .loop .p))) (c .before .before .before .before .before .before .loop .p) (c .before .before .before .before .before .before .loop .n + 1) (omega arith) (omega (arith, c .before .before .before .before .before .before .loop .inv .1 .above .size, c .before .before .before .before .before .before .before .before .before .before .before .clear-heads .ensures .above .size)))),
 )
 
-mul-t-5 : tie.Need-mul-t-5 Inv-loop μ-loop
-mul-t-5 c = search needs
+mul-t-6 : tie.Need-mul-t-6 Inv-loop μ-loop
+mul-t-6 c = search needs
 
-slice-write-t-3 : tie.Need-slice-write-t-3 Inv-loop μ-loop
-slice-write-t-3 c = search needs
+slice-write-t-5 : tie.Need-slice-write-t-5 Inv-loop μ-loop
+slice-write-t-5 c = omega (arith, c .before .loop .inv .1 .above .size, c .before .before .before .before .before .before .clear-heads .ensures .above .size)
 
 same-length : tie.Need-same-length Inv-loop μ-loop
-same-length c = search needs
+same-length c = simp length-set (omega (arith, c .before .loop .inv .1 .above .size, c .before .before .before .before .before .before .clear-heads .ensures .above .size))
 
 returns : tie.Need-returns Inv-loop μ-loop
-returns c = done (c .before .before .before .before .before .before .args .img .now) (c .before .before .before .before .before .before .args .t .now) (c .before .before .before .before .before .before .args .base) (placesIn (c .before .before .before .before .before .before .args .most) (c .before .before .before .before .before .before .args .img .now) (c .before .before .before .before .before .before .args .l)) (c .before .loop .t) _ (c .before .loop .n)
-    (⊎-elim (λ w. places-end (c .before .before .before .before .before .before .args .img .now) (c .before .before .before .before .before .before .args .most - c .before .loop .n) (c .before .loop .p) (c .before .before .before .past .result) (ltb-false _ _ (w .1 .left)))
-    (λ w. places-zero (c .before .before .before .before .before .before .args .img .now) (c .before .before .before .before .before .before .args .most - c .before .loop .n) (c .before .loop .p) (c .before .before .before .past .result) (omega (arith, w .left))) (c .loop-test .came))
-    (omega (arith, c .before .loop .inv .1 .size))
+returns c = done (c .before .before .before .before .before .before .before .before .before .before .args .img .now) (c .before .before .before .before .before .before .clear-heads .last .0) (c .before .before .before .before .before .before .before .before .before .before .args .base) (placesIn (c .before .before .before .before .before .before .before .before .before .before .args .most) (c .before .before .before .before .before .before .before .before .before .before .args .img .now) (c .before .before .before .before .before .before .before .before .before .before .args .l)) (c .before .loop .t) _ (c .before .loop .n) (c .before .before .before .before .before .before .before .before .before .before .args .t .now)
+    (⊎-elim (λ w. places-end (c .before .before .before .before .before .before .before .before .before .before .args .img .now) (c .before .before .before .before .before .before .before .before .before .before .args .most - c .before .loop .n) (c .before .loop .p) (c .before .before .before .past .result) (ltb-false _ _ (w .1 .left)))
+    (λ w. places-zero (c .before .before .before .before .before .before .before .before .before .before .args .img .now) (c .before .before .before .before .before .before .before .before .before .before .args .most - c .before .loop .n) (c .before .loop .p) (c .before .before .before .past .result) (omega (arith, w .left))) (c .loop-test .came))
+    (omega (arith, c .before .loop .inv .1 .above .size, c .before .before .before .before .before .before .clear-heads .ensures .above .size))
+    (c .before .before .before .before .before .before .clear-heads .ensures .above)
     (c .before .loop .inv .1)
 
 pub fill-list-spec : {M : Type 1} → statement M
@@ -104,26 +133,35 @@ fill-list-spec =
     (tie.spec
     Inv-loop
     μ-loop
+    clear-heads-requires
     past-requires
     body-requires
     loop-holds
     body-requires-2
     name-key-requires
-    add-t
+    add-head
+    add-head-2
+    add-at
+    mul-at
+    add-at-2
     mul-t
-    add-t-2
-    mul-t-2
     slice-write-t
-    add-t-3
-    mul-t-3
-    add-t-4
-    mul-t-4
+    add-t
+    mul-t-2
     slice-write-t-2
+    mul-t-3
+    slice-read-t
+    add-t-2
+    mul-t-4
+    slice-write-t-3
+    add-t-3
+    mul-t-5
+    slice-write-t-4
     past-requires-2
     add-n
     loop-less
     loop-again
-    mul-t-5
-    slice-write-t-3
+    mul-t-6
+    slice-write-t-5
     same-length
     returns)

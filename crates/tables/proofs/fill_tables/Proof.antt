@@ -39,10 +39,10 @@ returns c =
     let few-structs : length (structsIn img) ≤ 64 = few 64 img (third img 0) in
     record {
       size = search needs;
-      functions = above img (c .before .before .fill-list2 .last .0) _ 0 642 (functionsIn img) (omega arith) (c .fill-list3 .ensures .1)
-          (above img (c .before .before .before .before .fill-list .last .0) _ 0 513 (functionsIn img) (omega arith) (c .before .before .fill-list2 .ensures .1)
+      functions = above img (c .before .before .fill-list2 .last .0) _ 0 1024 (functionsIn img) (omega arith) (c .fill-list3 .ensures .1)
+          (above img (c .before .before .before .before .fill-list .last .0) _ 0 800 (functionsIn img) (omega arith) (c .before .before .fill-list2 .ensures .1)
           (rw (c .before .before .before .before .before .before .past3 .ensures .0, c .before .before .before .before .before .before .before .past2 .ensures .0, c .before .before .before .before .before .before .before .before .past .ensures .0, c .before .before .before .before .before .before .before .before .before .body .ensures .0) at (c .before .before .before .before .fill-list .ensures .0)));
-      structs = above img (c .before .before .fill-list2 .last .0) _ 513 642 (structsIn img) (omega arith) (c .fill-list3 .ensures .1)
+      structs = above img (c .before .before .fill-list2 .last .0) _ 800 1024 (structsIn img) (omega arith) (c .fill-list3 .ensures .1)
           (rw (c .before .before .before .before .before .before .before .past2 .ensures .0, c .before .before .before .before .before .before .before .before .past .ensures .0, c .before .before .before .before .before .before .before .before .before .body .ensures .0) at (c .before .before .fill-list2 .ensures .0));
       storage = rw (c .before .before .before .before .before .before .before .before .past .ensures .0, c .before .before .before .before .before .before .before .before .before .body .ensures .0) at (c .fill-list3 .ensures .0);
     }

@@ -5,7 +5,7 @@ use Rattle.tables.proofs.function_named.Statement.{statement}
 use Rattle.tables.proofs.function_named.Tie as tie
 
 last-named-requires : tie.Need-last-named-requires
-last-named-requires c κs = search needs
+last-named-requires c κs = (_, c .before .before .pre .functions)
 
 returns : tie.Need-returns
 returns c = c .last-named .ensures _ (c .before .before .before .pre .functions)

@@ -1,16 +1,17 @@
 -- last_named meets its contract.
 -- Assumes nothing.
-use mathlib.Core.Path.{refl, sym, _∙_}
-use Prim.Native.Nat.{_≤_}
+use mathlib.Core.Logic.{⊎-elim}
+use mathlib.Core.Path.{sym, _∙_}
+use Prim.Native.Nat.{_+_, _*_, _≤_}
 use native.Mathlib.Omega.{arith}
-use lib.ListN.{getD}
-use Rattle.tables.proofs.Search.{Past, start, skip-key, skip-name, hit, miss}
+use lib.ListN.{length}
+use Rattle.tables.proofs.Search.{Search, older, start, skip-key, skip-name, hit, miss}
 use borrow.Author.Needs.{needs}
 use Rattle.tables.proofs.last_named.Statement.{statement}
 use Rattle.tables.proofs.last_named.Tie as tie
 
 abbrev Inv-loop : tie.InvT-loop
-Inv-loop img t base x key k₀ k = (k ≤ getD t base 0) × Past img t base x k
+Inv-loop img t base x key k₀ k = (base + 32 + 3 * k ≤ length t) × Search img t base x k
 
 abbrev μ-loop : tie.MeasureT-loop
 μ-loop img t base x key k₀ k = k
@@ -18,29 +19,35 @@ abbrev μ-loop : tie.MeasureT-loop
 name-key-requires : tie.Need-name-key-requires Inv-loop μ-loop
 name-key-requires c κs = search needs
 
+add-k : tie.Need-add-k Inv-loop μ-loop
+add-k c = search needs
+
+add-k-2 : tie.Need-add-k-2 Inv-loop μ-loop
+add-k-2 c = search needs
+
 mul-k : tie.Need-mul-k Inv-loop μ-loop
 mul-k c = search needs
 
 shared-slice-read-k : tie.Need-shared-slice-read-k Inv-loop μ-loop
-shared-slice-read-k c = search needs
+shared-slice-read-k c = omega (arith, c .before .before .before .before .pre .1 .room)
 
 loop-holds : tie.Need-loop-holds Inv-loop μ-loop
-loop-holds c = (omega arith, start (c .before .before .before .before .args .img .now) (c .before .before .before .before .args .t .now) (c .before .before .before .before .args .base) (c .before .before .before .before .args .x) _ refl)
+loop-holds c = let s = start (c .before .before .before .before .args .img .now) (c .before .before .before .before .args .t .now) (c .before .before .before .before .args .base) (c .before .before .before .before .args .x) in rw (c .before .name-key .ensures) (omega (arith, c .before .before .before .before .pre .1 .room, s (c .before .before .before .before .pre .0) (c .before .before .before .before .pre .1) .within), s)
 
 sub-k : tie.Need-sub-k Inv-loop μ-loop
 sub-k c = search needs
 
-add-if1 : tie.Need-add-if1 Inv-loop μ-loop
-add-if1 c = search needs
+add-at : tie.Need-add-at Inv-loop μ-loop
+add-at c = search needs
+
+mul-at : tie.Need-mul-at Inv-loop μ-loop
+mul-at c = search needs
+
+add-at-2 : tie.Need-add-at-2 Inv-loop μ-loop
+add-at-2 c = search needs
 
 mul-if1 : tie.Need-mul-if1 Inv-loop μ-loop
 mul-if1 c = search needs
-
-add-if1-2 : tie.Need-add-if1-2 Inv-loop μ-loop
-add-if1-2 c = search needs
-
-mul-if1-2 : tie.Need-mul-if1-2 Inv-loop μ-loop
-mul-if1-2 c = search needs
 
 shared-slice-read-if1 : tie.Need-shared-slice-read-if1 Inv-loop μ-loop
 shared-slice-read-if1 c = search needs
@@ -50,12 +57,6 @@ add-p c = search needs
 
 mul-p : tie.Need-mul-p Inv-loop μ-loop
 mul-p c = search needs
-
-add-p-2 : tie.Need-add-p-2 Inv-loop μ-loop
-add-p-2 c = search needs
-
-mul-p-2 : tie.Need-mul-p-2 Inv-loop μ-loop
-mul-p-2 c = search needs
 
 shared-slice-read-p : tie.Need-shared-slice-read-p Inv-loop μ-loop
 shared-slice-read-p c = search needs
@@ -67,19 +68,28 @@ same-name-requires : tie.Need-same-name-requires Inv-loop μ-loop
 same-name-requires c κs = search needs
 
 returns : tie.Need-returns Inv-loop μ-loop
-returns c = hit (c .before .before .before .before .before .before .before .before .before .before .before .before .args .img .now) (c .before .before .before .before .before .before .before .before .before .before .before .before .args .t .now) (c .before .before .before .before .before .before .before .before .before .before .before .before .args .base) (c .before .before .before .before .before .before .before .before .before .before .before .before .args .x) (c .before .before .before .before .before .before .before .loop .k) (c .before .before .before .before .before .before .loop-test .taken) (c .before .before .before .before .before .before .before .loop .inv .0) (c .before .before .before .before .before .before .before .loop .inv .1) (rw (← c .before .before .body .ensures .0) (sym (c .before .same-name .ensures) ∙ c .if2 .taken))
+returns c = hit (c .before .before .before .before .before .before .before .before .before .before .before .before .args .img .now) (c .before .before .before .before .before .before .before .before .before .before .before .before .args .t .now) (c .before .before .before .before .before .before .before .before .before .before .before .before .args .base) (c .before .before .before .before .before .before .before .before .before .before .before .before .args .x) (c .before .before .before .before .before .before .before .loop .k) (c .before .before .before .before .before .before .loop-test .taken) (c .before .before .before .before .before .before .before .loop .inv .1) (rw (← c .before .before .body .ensures .0) (sym (c .before .same-name .ensures) ∙ c .if2 .taken))
+
+add-k-3 : tie.Need-add-k-3 Inv-loop μ-loop
+add-k-3 c = search needs
+
+mul-k-2 : tie.Need-mul-k-2 Inv-loop μ-loop
+mul-k-2 c = search needs
+
+shared-slice-read-k-2 : tie.Need-shared-slice-read-k-2 Inv-loop μ-loop
+shared-slice-read-k-2 c = search needs
 
 loop-less : tie.Need-loop-less Inv-loop μ-loop
-loop-less c = search needs
+loop-less c = older (c .before .before .before .before .before .before .before .before .before .args .img .now) (c .before .before .before .before .before .before .before .before .before .args .t .now) (c .before .before .before .before .before .before .before .before .before .args .base) (c .before .before .before .before .before .before .before .before .before .args .x) (c .before .before .before .before .loop .k) (c .before .before .before .loop-test .taken) (c .before .before .before .before .before .before .before .before .before .pre .0) (c .before .before .before .before .before .before .before .before .before .pre .1) (c .before .before .before .before .loop .inv .1 (c .before .before .before .before .before .before .before .before .before .pre .0) (c .before .before .before .before .before .before .before .before .before .pre .1) .within)
 
 loop-again : tie.Need-loop-again Inv-loop μ-loop
-loop-again c = (omega arith, skip-name (c .before .before .before .before .before .before .before .before .before .before .before .before .args .img .now) (c .before .before .before .before .before .before .before .before .before .before .before .before .args .t .now) (c .before .before .before .before .before .before .before .before .before .before .before .before .args .base) (c .before .before .before .before .before .before .before .before .before .before .before .before .args .x) (c .before .before .before .before .before .before .before .loop .k) (c .before .before .before .before .before .before .loop-test .taken) (c .before .before .before .before .before .before .before .loop .inv .0) (c .before .before .before .before .before .before .before .loop .inv .1) (rw (← c .before .before .body .ensures .0) (sym (c .before .same-name .ensures) ∙ c .if2 .left)))
-
-loop-less-2 : tie.Need-loop-less-2 Inv-loop μ-loop
-loop-less-2 c = search needs
-
-loop-again-2 : tie.Need-loop-again-2 Inv-loop μ-loop
-loop-again-2 c = (omega arith, skip-key (c .before .before .before .before .before .before .before .before .args .img .now) (c .before .before .before .before .before .before .before .before .args .t .now) (c .before .before .before .before .before .before .before .before .args .base) (c .before .before .before .before .before .before .before .before .args .x) (c .before .before .before .loop .k) (c .before .before .loop-test .taken) (c .before .before .before .loop .inv .0) (c .before .before .before .loop .inv .1) (λ e. c .if1 .left (e ∙ sym (c .before .before .before .before .before .name-key .ensures))))
+loop-again c = (
+  omega (arith, older (c .before .before .before .before .before .before .before .before .before .args .img .now) (c .before .before .before .before .before .before .before .before .before .args .t .now) (c .before .before .before .before .before .before .before .before .before .args .base) (c .before .before .before .before .before .before .before .before .before .args .x) (c .before .before .before .before .loop .k) (c .before .before .before .loop-test .taken) (c .before .before .before .before .before .before .before .before .before .pre .0) (c .before .before .before .before .before .before .before .before .before .pre .1) (c .before .before .before .before .loop .inv .1 (c .before .before .before .before .before .before .before .before .before .pre .0) (c .before .before .before .before .before .before .before .before .before .pre .1) .within), c .before .before .before .before .loop .inv .0),
+  ⊎-elim
+      (λ w. skip-name (c .before .before .before .before .before .before .before .before .before .args .img .now) (c .before .before .before .before .before .before .before .before .before .args .t .now) (c .before .before .before .before .before .before .before .before .before .args .base) (c .before .before .before .before .before .before .before .before .before .args .x) (c .before .before .before .before .loop .k) (c .before .before .before .loop-test .taken) (c .before .before .before .before .loop .inv .1) (rw (← w .2 .ensures .0) (sym (w .3 .ensures) ∙ w .4 .left)))
+      (λ w. skip-key (c .before .before .before .before .before .before .before .before .before .args .img .now) (c .before .before .before .before .before .before .before .before .before .args .t .now) (c .before .before .before .before .before .before .before .before .before .args .base) (c .before .before .before .before .before .before .before .before .before .args .x) (c .before .before .before .before .loop .k) (c .before .before .before .loop-test .taken) (c .before .before .before .before .loop .inv .1) (λ e. w .left (e ∙ sym (c .before .before .before .before .before .before .name-key .ensures))))
+      (c .before .if1 .came),
+)
 
 returns-2 : tie.Need-returns-2 Inv-loop μ-loop
 returns-2 c = miss (c .before .before .before .before .before .before .args .img .now) (c .before .before .before .before .before .before .args .t .now) (c .before .before .before .before .before .before .args .base) (c .before .before .before .before .before .before .args .x) (c .before .loop .k) (c .loop-test .left) (c .before .loop .inv .1)
@@ -91,25 +101,26 @@ last-named-spec =
     Inv-loop
     μ-loop
     name-key-requires
+    add-k
+    add-k-2
     mul-k
     shared-slice-read-k
     loop-holds
     sub-k
-    add-if1
+    add-at
+    mul-at
+    add-at-2
     mul-if1
-    add-if1-2
-    mul-if1-2
     shared-slice-read-if1
     add-p
     mul-p
-    add-p-2
-    mul-p-2
     shared-slice-read-p
     body-requires
     same-name-requires
     returns
+    add-k-3
+    mul-k-2
+    shared-slice-read-k-2
     loop-less
     loop-again
-    loop-less-2
-    loop-again-2
     returns-2)

@@ -15,6 +15,9 @@ mul-cell c = search needs
 add-cell-2 : tie.Need-add-cell-2
 add-cell-2 c = search needs
 
+add-cell-3 : tie.Need-add-cell-3
+add-cell-3 c = search needs
+
 cell-requires : tie.Need-cell-requires
 cell-requires c κs = search needs
 
@@ -25,4 +28,5 @@ returns-2 : tie.Need-returns-2
 returns-2 c = λ img ps l h. absurd (omega (arith, l .room, c .if1 .left))
 
 pub place-in-spec : {M : Type 1} → statement M
-place-in-spec = tie.close (tie.spec add-cell mul-cell add-cell-2 cell-requires returns returns-2)
+place-in-spec =
+    tie.close (tie.spec add-cell mul-cell add-cell-2 add-cell-3 cell-requires returns returns-2)

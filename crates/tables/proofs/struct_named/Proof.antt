@@ -5,7 +5,7 @@ use Rattle.tables.proofs.struct_named.Statement.{statement}
 use Rattle.tables.proofs.struct_named.Tie as tie
 
 last-named-requires : tie.Need-last-named-requires
-last-named-requires c κs = search needs
+last-named-requires c κs = (_, c .before .before .pre .structs)
 
 returns : tie.Need-returns
 returns c = c .last-named .ensures _ (c .before .before .before .pre .structs)

@@ -1,9 +1,10 @@
 -- The measures of the cycle, and what each member is given and asks at a measure.
-use Prim.Native.Nat.{ℕ, _+_, _-_, _*_, _<_}
+use Prim.Native.Nat.{ℕ, _+_, _*_, _<_}
 use borrow.Fn.Kinds.{In}
 use borrow.Fn.PlainCycle.{Measures, is, falls, and}
 use Rattle.expr.proofs.gen_args.Reads as gen-args
 use Rattle.expr.proofs.gen_args.Kinds as gen-args-kinds
+use Rattle.expr.proofs.+gen_args+gen_binary+gen_call+gen_expr+gen_field+gen_inits+gen_list+gen_literal+gen_mapping+gen_merkle+gen_poseidon+gen_syscall+gen_user.Lts-gen_args as gen-args-lts
 use Rattle.expr.proofs.gen_binary.Reads as gen-binary
 use Rattle.expr.proofs.gen_binary.Kinds as gen-binary-kinds
 use Rattle.expr.proofs.gen_call.Reads as gen-call
@@ -14,6 +15,7 @@ use Rattle.expr.proofs.gen_field.Reads as gen-field
 use Rattle.expr.proofs.gen_field.Kinds as gen-field-kinds
 use Rattle.expr.proofs.gen_inits.Reads as gen-inits
 use Rattle.expr.proofs.gen_inits.Kinds as gen-inits-kinds
+use Rattle.expr.proofs.+gen_args+gen_binary+gen_call+gen_expr+gen_field+gen_inits+gen_list+gen_literal+gen_mapping+gen_merkle+gen_poseidon+gen_syscall+gen_user.Lts-gen_inits as gen-inits-lts
 use Rattle.expr.proofs.gen_list.Reads as gen-list
 use Rattle.expr.proofs.gen_list.Kinds as gen-list-kinds
 use Rattle.expr.proofs.gen_literal.Reads as gen-literal
@@ -28,9 +30,12 @@ use Rattle.expr.proofs.gen_syscall.Reads as gen-syscall
 use Rattle.expr.proofs.gen_syscall.Kinds as gen-syscall-kinds
 use Rattle.expr.proofs.gen_user.Reads as gen-user
 use Rattle.expr.proofs.gen_user.Kinds as gen-user-kinds
+use Rattle.expr.proofs.steps.keep.Reads as keep-reads
+use Rattle.records.proofs.body.Reads as body-reads
+use Rattle.records.proofs.past.Reads as past-reads
 
 abbrev pub μ-gen-args : Measures 5 gen-args-kinds.ps ℕ
-μ-gen-args κs a = 100 * a .1 .1 .1 .1 .1 .1 .0 + (64 - a .1 .1 .1 .1 .1 .1 .1 .1 .1 .0) + 1
+μ-gen-args κs a = 100 * a .1 .1 .1 .1 .1 .1 .0 + 1
 
 abbrev pub μ-gen-binary : Measures 4 gen-binary-kinds.ps ℕ
 μ-gen-binary κs a = 100 * a .1 .1 .1 .1 .1 .0 + 70
@@ -45,7 +50,7 @@ abbrev pub μ-gen-field : Measures 4 gen-field-kinds.ps ℕ
 μ-gen-field κs a = 100 * a .1 .1 .1 .1 .1 .0 + 70
 
 abbrev pub μ-gen-inits : Measures 5 gen-inits-kinds.ps ℕ
-μ-gen-inits κs a = 100 * a .1 .1 .1 .1 .1 .1 .0 + (64 - a .1 .1 .1 .1 .1 .1 .1 .1 .1 .0) + 1
+μ-gen-inits κs a = 100 * a .1 .1 .1 .1 .1 .1 .0 + 1
 
 abbrev pub μ-gen-list : Measures 5 gen-list-kinds.ps ℕ
 μ-gen-list κs a = 100 * a .1 .1 .1 .1 .1 .1 .0 + 66
@@ -168,3 +173,9 @@ gen-user-at t = and 4 gen-user-kinds.ps (is 4 gen-user-kinds.ps μ-gen-user t) g
 abbrev pub gen-user-below : ℕ → In 4 gen-user-kinds.ps
 gen-user-below t =
     and 4 gen-user-kinds.ps (falls 4 gen-user-kinds.ps _<_ μ-gen-user t) gen-user.Pre
+
+abbrev pub gen-args-told : ℕ → gen-args-lts.Claims
+gen-args-told t = (gen-expr-below t, gen-expr.Post, keep-reads.Asked, keep-reads.Learnt, past-reads.Asked, past-reads.Learnt)
+
+abbrev pub gen-inits-told : ℕ → gen-inits-lts.Claims
+gen-inits-told t = (body-reads.Asked, body-reads.Learnt, past-reads.Asked, past-reads.Learnt, gen-expr-below t, gen-expr.Post, keep-reads.Asked, keep-reads.Learnt)

@@ -1,125 +1,48 @@
 -- The needs of `gen_args`.
-use Rattle.expr.proofs.Walk.{args-full, args-end, args-more, gather-none, gather-more}
-use Rattle.expr.specs.Scope.{scopeIn}
-use Rattle.emit.specs.State.{rulesOf}
-use Rattle.emit.specs.Steps.{gens}
-use Rattle.rules.specs.Read.{exprsFrom, exprAt, contractAt}
-use Rattle.rules.specs.Bytes.{after}
-use lib.ListN.{length-set}
+use mathlib.Core.Path.{ap}
+use borrow.Author.Tests.{ltb-true, ltb-false}
+use Rattle.expr.specs.declared.steps.Several.{Several}
+use Rattle.expr.proofs.Walk.{args-full, args-end}
+use Rattle.expr.proofs.Loops.{Gathering, gather-begin, args-from, args-go, gather-end}
+use Prim.Native.Nat.{ℕ, _-_}
 use native.Mathlib.Omega.{arith}
 use borrow.Author.Needs.{needs}
-use Prim.Native.Nat.{ℕ, _+_, _-_}
 use Rattle.expr.proofs.gen_args.Reads as gen-args
 use Rattle.expr.proofs.+gen_args+gen_binary+gen_call+gen_expr+gen_field+gen_inits+gen_list+gen_literal+gen_mapping+gen_merkle+gen_poseidon+gen_syscall+gen_user.Lts-gen_args as gen-args-lts
-use Rattle.expr.proofs.gen_expr.Reads as gen-expr
-use Rattle.expr.proofs.steps.keep.Reads as keep-reads
-use Rattle.records.proofs.past.Reads as past-reads
-use Rattle.expr.proofs.+gen_args+gen_binary+gen_call+gen_expr+gen_field+gen_inits+gen_list+gen_literal+gen_mapping+gen_merkle+gen_poseidon+gen_syscall+gen_user.Proof.Common.{gen-args-at, gen-args-below, gen-expr-below}
+use Rattle.expr.proofs.+gen_args+gen_binary+gen_call+gen_expr+gen_field+gen_inits+gen_list+gen_literal+gen_mapping+gen_merkle+gen_poseidon+gen_syscall+gen_user.Proof.Common.{gen-args-at, gen-args-told}
 
-pub gen-args-returns : (t : ℕ) → gen-args-lts.Need-returns (
-  gen-expr-below t,
-  gen-expr.Post,
-  keep-reads.Asked,
-  keep-reads.Learnt,
-  past-reads.Asked,
-  past-reads.Learnt,
-  gen-args-below t,
-  gen-args.Post,
-) (gen-args-at t) gen-args.Post
-gen-args-returns t c = gather-none _ _ _ _ _ _ (c .before .before .before .before .before .pre .1 .1 .0) (args-full (c .before .before .before .before .before .args .rules) _ _ _ _ _ _ _ _ (c .if1 .taken))
+abbrev pub gen-args-Inv-loop : gen-args-lts.InvT-loop
+gen-args-Inv-loop code₀ vals₀ img tables scope rules depth first e p₀ v₀ code vals p v = Gathering img code₀ (v₀ .st) (args-from img rules scope depth e 0 first (v₀ .st .next)) code vals v (args-from img rules scope depth e (v .count) p (v .st .next))
 
-pub gen-args-returns-2 : (t : ℕ) → gen-args-lts.Need-returns-2 (
-  gen-expr-below t,
-  gen-expr.Post,
-  keep-reads.Asked,
-  keep-reads.Learnt,
-  past-reads.Asked,
-  past-reads.Learnt,
-  gen-args-below t,
-  gen-args.Post,
-) (gen-args-at t) gen-args.Post
-gen-args-returns-2 t c = gather-none _ _ _ _ _ _ (c .before .before .before .before .before .before .pre .1 .1 .0) (args-end (c .before .before .before .before .before .before .args .rules) _ _ _ _ _ _ _ _ (c .if2 .taken))
+abbrev pub gen-args-μ-loop : gen-args-lts.MeasureT-loop
+gen-args-μ-loop code₀ vals₀ img tables scope rules depth first e p₀ v₀ code vals p v = 64 - v .count
 
-pub gen-args-gen-expr-requires : (t : ℕ) → gen-args-lts.Need-gen-expr-requires (
-  gen-expr-below t,
-  gen-expr.Post,
-  keep-reads.Asked,
-  keep-reads.Learnt,
-  past-reads.Asked,
-  past-reads.Learnt,
-  gen-args-below t,
-  gen-args.Post,
-) (gen-args-at t) gen-args.Post
+pub gen-args-loop-holds : (t : ℕ) → gen-args-lts.Need-loop-holds (gen-args-told t) (gen-args-at t) gen-args.Post gen-args-Inv-loop gen-args-μ-loop
+gen-args-loop-holds t c = gather-begin _ _ _ _ _ (c .before .before .before .before .pre .1 .1)
+
+pub gen-args-gen-expr-requires : (t : ℕ) → gen-args-lts.Need-gen-expr-requires (gen-args-told t) (gen-args-at t) gen-args.Post gen-args-Inv-loop gen-args-μ-loop
 gen-args-gen-expr-requires t c κs = search needs
 
-pub gen-args-keep-requires : (t : ℕ) → gen-args-lts.Need-keep-requires (
-  gen-expr-below t,
-  gen-expr.Post,
-  keep-reads.Asked,
-  keep-reads.Learnt,
-  past-reads.Asked,
-  past-reads.Learnt,
-  gen-args-below t,
-  gen-args.Post,
-) (gen-args-at t) gen-args.Post
+pub gen-args-keep-requires : (t : ℕ) → gen-args-lts.Need-keep-requires (gen-args-told t) (gen-args-at t) gen-args.Post gen-args-Inv-loop gen-args-μ-loop
 gen-args-keep-requires t c κs = search needs
 
-pub gen-args-past-requires : (t : ℕ) → gen-args-lts.Need-past-requires (
-  gen-expr-below t,
-  gen-expr.Post,
-  keep-reads.Asked,
-  keep-reads.Learnt,
-  past-reads.Asked,
-  past-reads.Learnt,
-  gen-args-below t,
-  gen-args.Post,
-) (gen-args-at t) gen-args.Post
+pub gen-args-past-requires : (t : ℕ) → gen-args-lts.Need-past-requires (gen-args-told t) (gen-args-at t) gen-args.Post gen-args-Inv-loop gen-args-μ-loop
 gen-args-past-requires t c κs = search needs
 
-pub gen-args-add-gen-args : (t : ℕ) → gen-args-lts.Need-add-gen-args (
-  gen-expr-below t,
-  gen-expr.Post,
-  keep-reads.Asked,
-  keep-reads.Learnt,
-  past-reads.Asked,
-  past-reads.Learnt,
-  gen-args-below t,
-  gen-args.Post,
-) (gen-args-at t) gen-args.Post
-gen-args-add-gen-args t c = search (needs, c .before .before .before .before .before .before .before .before .before .before .if1 .left)
+pub gen-args-loop-less : (t : ℕ) → gen-args-lts.Need-loop-less (gen-args-told t) (gen-args-at t) gen-args.Post gen-args-Inv-loop gen-args-μ-loop
+gen-args-loop-less t c = omega (arith, c .before .before .before .before .before .before .before .before .if1 .taken, ap (λ (x : Several). x .count) (c .before .keep .ensures .0))
 
-pub gen-args-gen-args-requires : (t : ℕ) → gen-args-lts.Need-gen-args-requires (
-  gen-expr-below t,
-  gen-expr.Post,
-  keep-reads.Asked,
-  keep-reads.Learnt,
-  past-reads.Asked,
-  past-reads.Learnt,
-  gen-args-below t,
-  gen-args.Post,
-) (gen-args-at t) gen-args.Post
-gen-args-gen-args-requires t c κs = (omega (arith, c .before .before .before .before .before .before .before .before .before .before .before .before .before .before .before .pre .0, c .before .before .before .before .before .before .before .before .before .before .if1 .left), (c .before .before .before .before .before .before .before .before .before .before .before .before .before .before .before .pre .1 .0, (omega (arith, c .before .before .before .before .before .before .before .before .before .before .if1 .left), rw (c .before .before .before .keep .ensures .0) (simp length-set (c .before .before .before .before .before .before .before .before .before .before .before .before .before .before .before .pre .1 .1 .1)))))
+pub gen-args-loop-again : (t : ℕ) → gen-args-lts.Need-loop-again (gen-args-told t) (gen-args-at t) gen-args.Post gen-args-Inv-loop gen-args-μ-loop
+gen-args-loop-again t c = args-go (c .before .before .before .before .before .before .before .before .before .before .before .before .before .before .before .args .img .now) _ _ _ (c .before .before .before .before .before .before .before .before .before .before .before .before .before .before .before .args .rules) (c .before .before .before .before .before .before .before .before .before .before .before .before .before .before .before .args .scope .now) (c .before .before .before .before .before .before .before .before .before .before .before .before .before .before .before .args .depth) (c .before .before .before .before .before .before .before .before .before .before .before .before .before .before .before .args .e) (c .before .before .before .before .before .before .before .before .before .before .loop .inv) (c .before .before .before .before .before .before .before .before .if1 .taken) (ltb-true _ _ (c .before .before .before .before .before .before .before .if2 .taken)) (c .before .before .before .before .before .gen-expr .ensures) (c .before .keep .ensures .0) (c .before .keep .ensures .1) (c .past .ensures .0) (c .before .before .before .before .before .gen-expr .kept .0)
 
-pub gen-args-same-length : (t : ℕ) → gen-args-lts.Need-same-length (
-  gen-expr-below t,
-  gen-expr.Post,
-  keep-reads.Asked,
-  keep-reads.Learnt,
-  past-reads.Asked,
-  past-reads.Learnt,
-  gen-args-below t,
-  gen-args.Post,
-) (gen-args-at t) gen-args.Post
-gen-args-same-length t c = search needs
+pub gen-args-same-length : (t : ℕ) → gen-args-lts.Need-same-length (gen-args-told t) (gen-args-at t) gen-args.Post gen-args-Inv-loop gen-args-μ-loop
+gen-args-same-length t c = c .before .before .before .loop .inv .code
 
-pub gen-args-returns-3 : (t : ℕ) → gen-args-lts.Need-returns-3 (
-  gen-expr-below t,
-  gen-expr.Post,
-  keep-reads.Asked,
-  keep-reads.Learnt,
-  past-reads.Asked,
-  past-reads.Learnt,
-  gen-args-below t,
-  gen-args.Post,
-) (gen-args-at t) gen-args.Post
-gen-args-returns-3 t c = gather-more _ (c .before .before .before .before .before .before .before .before .before .before .before .before .before .before .before .before .before .before .args .st) (c .before .before .before .before .before .before .before .before .before .before .gen-expr .result) _ _ _ _ _ _ (λ (n : ℕ). gens (rulesOf (c .before .before .before .before .before .before .before .before .before .before .before .before .before .before .before .before .before .before .args .rules)) (contractAt (c .before .before .before .before .before .before .before .before .before .before .before .before .before .before .before .before .before .before .args .img .now)) (exprsFrom (64 - (c .before .before .before .before .before .before .before .before .before .before .before .before .before .before .before .before .before .before .args .i + 1)) (exprAt (c .before .before .before .before .before .before .before .before .before .before .before .before .before .before .before .before .before .before .args .depth) (c .before .before .before .before .before .before .before .before .before .before .before .before .before .before .before .before .before .before .args .img .now)) (c .before .before .before .before .before .before .before .before .before .before .before .before .before .before .before .before .before .before .args .img .now) (after (c .before .before .before .before .before .before .before .before .before .before .before .before .before .before .before .before .before .before .args .img .now) (c .before .before .before .before .before .before .before .before .before .before .before .before .before .before .before .before .before .before .args .p)) (c .before .before .before .before .before .before .before .before .before .before .before .before .before .before .before .before .before .before .args .e)) (scopeIn (c .before .before .before .before .before .before .before .before .before .before .before .before .before .before .before .before .before .before .args .img .now) (c .before .before .before .before .before .before .before .before .before .before .before .before .before .before .before .before .before .before .args .scope .now)) n) _ (args-more (c .before .before .before .before .before .before .before .before .before .before .before .before .before .before .before .before .before .before .args .rules) _ _ _ _ _ _ _ _ (c .before .before .before .before .before .before .before .before .before .before .before .before .before .if1 .left) (c .before .before .before .before .before .before .before .before .before .before .before .before .if2 .left)) (c .before .before .before .before .before .before .before .before .before .before .before .before .before .if1 .left) (c .before .before .before .before .before .before .before .before .before .before .before .before .before .before .before .before .before .before .pre .1 .1 .1) (c .before .before .before .before .before .before .keep .ensures .1) (c .before .before .before .before .before .before .before .before .before .before .gen-expr .ensures) (c .before .before .before .before .before .before .keep .ensures .0) (rw (c .before .before .before .past .ensures .0) at (c .before .before .gen-args .ensures))
+pub gen-args-returns : (t : ℕ) → gen-args-lts.Need-returns (gen-args-told t) (gen-args-at t) gen-args.Post gen-args-Inv-loop gen-args-μ-loop
+gen-args-returns t c = gather-end _ _ _ _ (c .before .before .before .loop .inv) (args-end (c .before .before .before .before .before .before .before .before .args .rules) _ _ _ _ _ _ _ _ (ltb-false _ _ (c .if2 .left)))
+
+pub gen-args-same-length-2 : (t : ℕ) → gen-args-lts.Need-same-length-2 (gen-args-told t) (gen-args-at t) gen-args.Post gen-args-Inv-loop gen-args-μ-loop
+gen-args-same-length-2 t c = c .before .before .loop .inv .code
+
+pub gen-args-returns-2 : (t : ℕ) → gen-args-lts.Need-returns-2 (gen-args-told t) (gen-args-at t) gen-args.Post gen-args-Inv-loop gen-args-μ-loop
+gen-args-returns-2 t c = gather-end _ _ _ _ (c .before .before .loop .inv) (args-full (c .before .before .before .before .before .before .before .args .rules) _ _ _ _ _ _ _ _ (c .if1 .left))

@@ -6,7 +6,7 @@ use Rattle.expr.proofs.gen_expr.Reads as gen-expr
 use Rattle.expr.proofs.gen_field.Reads as gen-field
 use Rattle.expr.proofs.+gen_args+gen_binary+gen_call+gen_expr+gen_field+gen_inits+gen_list+gen_literal+gen_mapping+gen_merkle+gen_poseidon+gen_syscall+gen_user.Lts-gen_field as gen-field-lts
 use Rattle.emit.proofs.emit_new.Reads as emit-new-reads
-use Rattle.expr.proofs.names.field_offset.Reads as field-offset-reads
+use Rattle.fields.proofs.field_offset.Reads as field-offset-reads
 use Rattle.records.proofs.body.Reads as body-reads
 use Rattle.records.proofs.past.Reads as past-reads
 use Rattle.expr.proofs.+gen_args+gen_binary+gen_call+gen_expr+gen_field+gen_inits+gen_list+gen_literal+gen_mapping+gen_merkle+gen_poseidon+gen_syscall+gen_user.Proof.Common.{gen-expr-below, gen-field-at}

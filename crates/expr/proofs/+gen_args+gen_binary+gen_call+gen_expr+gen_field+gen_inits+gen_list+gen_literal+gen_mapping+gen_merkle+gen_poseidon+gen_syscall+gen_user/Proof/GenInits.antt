@@ -1,172 +1,54 @@
 -- The needs of `gen_inits`.
-use Rattle.expr.proofs.Walk.{inits-full, inits-end, inits-more, gather-none, gather-more}
-use Rattle.expr.specs.Scope.{scopeIn}
-use Rattle.emit.specs.State.{rulesOf}
-use Rattle.emit.specs.Steps.{gen-inits}
-use Rattle.rules.specs.Read.{initsFrom, exprAt, contractAt}
-use Rattle.rules.specs.Bytes.{after}
-use lib.ListN.{length-set}
+use mathlib.Core.Path.{ap}
+use borrow.Author.Tests.{ltb-true, ltb-false}
+use Rattle.expr.specs.declared.steps.Several.{Several}
+use Rattle.expr.proofs.Walk.{inits-full, inits-end}
+use Rattle.expr.proofs.Loops.{Gathering, gather-begin, inits-from, inits-go, gather-end}
+use Prim.Native.Nat.{ℕ, _-_}
 use native.Mathlib.Omega.{arith}
 use borrow.Author.Needs.{needs}
-use Prim.Native.Nat.{ℕ, _+_, _-_}
-use Rattle.expr.proofs.gen_expr.Reads as gen-expr
 use Rattle.expr.proofs.gen_inits.Reads as gen-inits
 use Rattle.expr.proofs.+gen_args+gen_binary+gen_call+gen_expr+gen_field+gen_inits+gen_list+gen_literal+gen_mapping+gen_merkle+gen_poseidon+gen_syscall+gen_user.Lts-gen_inits as gen-inits-lts
-use Rattle.expr.proofs.steps.keep.Reads as keep-reads
-use Rattle.records.proofs.body.Reads as body-reads
-use Rattle.records.proofs.past.Reads as past-reads
-use Rattle.expr.proofs.+gen_args+gen_binary+gen_call+gen_expr+gen_field+gen_inits+gen_list+gen_literal+gen_mapping+gen_merkle+gen_poseidon+gen_syscall+gen_user.Proof.Common.{gen-expr-below, gen-inits-at, gen-inits-below}
+use Rattle.expr.proofs.+gen_args+gen_binary+gen_call+gen_expr+gen_field+gen_inits+gen_list+gen_literal+gen_mapping+gen_merkle+gen_poseidon+gen_syscall+gen_user.Proof.Common.{gen-inits-at, gen-inits-told}
 
-pub gen-inits-returns : (t : ℕ) → gen-inits-lts.Need-returns (
-  body-reads.Asked,
-  body-reads.Learnt,
-  past-reads.Asked,
-  past-reads.Learnt,
-  gen-expr-below t,
-  gen-expr.Post,
-  keep-reads.Asked,
-  keep-reads.Learnt,
-  gen-inits-below t,
-  gen-inits.Post,
-) (gen-inits-at t) gen-inits.Post
-gen-inits-returns t c = gather-none _ _ _ _ _ _ (c .before .before .before .before .before .pre .1 .1 .0) (inits-full (c .before .before .before .before .before .args .rules) _ _ _ _ _ _ _ _ (c .if1 .taken))
+abbrev pub gen-inits-Inv-loop : gen-inits-lts.InvT-loop
+gen-inits-Inv-loop code₀ vals₀ img tables scope rules depth first e p₀ v₀ code vals p v = Gathering img code₀ (v₀ .st) (inits-from img rules scope depth e 0 first (v₀ .st .next)) code vals v (inits-from img rules scope depth e (v .count) p (v .st .next))
 
-pub gen-inits-returns-2 : (t : ℕ) → gen-inits-lts.Need-returns-2 (
-  body-reads.Asked,
-  body-reads.Learnt,
-  past-reads.Asked,
-  past-reads.Learnt,
-  gen-expr-below t,
-  gen-expr.Post,
-  keep-reads.Asked,
-  keep-reads.Learnt,
-  gen-inits-below t,
-  gen-inits.Post,
-) (gen-inits-at t) gen-inits.Post
-gen-inits-returns-2 t c = gather-none _ _ _ _ _ _ (c .before .before .before .before .before .before .pre .1 .1 .0) (inits-end (c .before .before .before .before .before .before .args .rules) _ _ _ _ _ _ _ _ (c .if2 .taken))
+abbrev pub gen-inits-μ-loop : gen-inits-lts.MeasureT-loop
+gen-inits-μ-loop code₀ vals₀ img tables scope rules depth first e p₀ v₀ code vals p v = 64 - v .count
 
-pub gen-inits-body-requires : (t : ℕ) → gen-inits-lts.Need-body-requires (
-  body-reads.Asked,
-  body-reads.Learnt,
-  past-reads.Asked,
-  past-reads.Learnt,
-  gen-expr-below t,
-  gen-expr.Post,
-  keep-reads.Asked,
-  keep-reads.Learnt,
-  gen-inits-below t,
-  gen-inits.Post,
-) (gen-inits-at t) gen-inits.Post
+pub gen-inits-loop-holds : (t : ℕ) → gen-inits-lts.Need-loop-holds (gen-inits-told t) (gen-inits-at t) gen-inits.Post gen-inits-Inv-loop gen-inits-μ-loop
+gen-inits-loop-holds t c = gather-begin _ _ _ _ _ (c .before .before .before .before .pre .1 .1)
+
+pub gen-inits-body-requires : (t : ℕ) → gen-inits-lts.Need-body-requires (gen-inits-told t) (gen-inits-at t) gen-inits.Post gen-inits-Inv-loop gen-inits-μ-loop
 gen-inits-body-requires t c κs = search needs
 
-pub gen-inits-past-requires : (t : ℕ) → gen-inits-lts.Need-past-requires (
-  body-reads.Asked,
-  body-reads.Learnt,
-  past-reads.Asked,
-  past-reads.Learnt,
-  gen-expr-below t,
-  gen-expr.Post,
-  keep-reads.Asked,
-  keep-reads.Learnt,
-  gen-inits-below t,
-  gen-inits.Post,
-) (gen-inits-at t) gen-inits.Post
+pub gen-inits-past-requires : (t : ℕ) → gen-inits-lts.Need-past-requires (gen-inits-told t) (gen-inits-at t) gen-inits.Post gen-inits-Inv-loop gen-inits-μ-loop
 gen-inits-past-requires t c κs = search needs
 
-pub gen-inits-gen-expr-requires : (t : ℕ) → gen-inits-lts.Need-gen-expr-requires (
-  body-reads.Asked,
-  body-reads.Learnt,
-  past-reads.Asked,
-  past-reads.Learnt,
-  gen-expr-below t,
-  gen-expr.Post,
-  keep-reads.Asked,
-  keep-reads.Learnt,
-  gen-inits-below t,
-  gen-inits.Post,
-) (gen-inits-at t) gen-inits.Post
+pub gen-inits-gen-expr-requires : (t : ℕ) → gen-inits-lts.Need-gen-expr-requires (gen-inits-told t) (gen-inits-at t) gen-inits.Post gen-inits-Inv-loop gen-inits-μ-loop
 gen-inits-gen-expr-requires t c κs = search needs
 
-pub gen-inits-keep-requires : (t : ℕ) → gen-inits-lts.Need-keep-requires (
-  body-reads.Asked,
-  body-reads.Learnt,
-  past-reads.Asked,
-  past-reads.Learnt,
-  gen-expr-below t,
-  gen-expr.Post,
-  keep-reads.Asked,
-  keep-reads.Learnt,
-  gen-inits-below t,
-  gen-inits.Post,
-) (gen-inits-at t) gen-inits.Post
+pub gen-inits-keep-requires : (t : ℕ) → gen-inits-lts.Need-keep-requires (gen-inits-told t) (gen-inits-at t) gen-inits.Post gen-inits-Inv-loop gen-inits-μ-loop
 gen-inits-keep-requires t c κs = search needs
 
-pub gen-inits-past-requires-2 : (t : ℕ) → gen-inits-lts.Need-past-requires-2 (
-  body-reads.Asked,
-  body-reads.Learnt,
-  past-reads.Asked,
-  past-reads.Learnt,
-  gen-expr-below t,
-  gen-expr.Post,
-  keep-reads.Asked,
-  keep-reads.Learnt,
-  gen-inits-below t,
-  gen-inits.Post,
-) (gen-inits-at t) gen-inits.Post
+pub gen-inits-past-requires-2 : (t : ℕ) → gen-inits-lts.Need-past-requires-2 (gen-inits-told t) (gen-inits-at t) gen-inits.Post gen-inits-Inv-loop gen-inits-μ-loop
 gen-inits-past-requires-2 t c κs = search needs
 
-pub gen-inits-add-gen-inits : (t : ℕ) → gen-inits-lts.Need-add-gen-inits (
-  body-reads.Asked,
-  body-reads.Learnt,
-  past-reads.Asked,
-  past-reads.Learnt,
-  gen-expr-below t,
-  gen-expr.Post,
-  keep-reads.Asked,
-  keep-reads.Learnt,
-  gen-inits-below t,
-  gen-inits.Post,
-) (gen-inits-at t) gen-inits.Post
-gen-inits-add-gen-inits t c = search (needs, c .before .before .before .before .before .before .before .before .before .before .before .before .if1 .left)
+pub gen-inits-loop-less : (t : ℕ) → gen-inits-lts.Need-loop-less (gen-inits-told t) (gen-inits-at t) gen-inits.Post gen-inits-Inv-loop gen-inits-μ-loop
+gen-inits-loop-less t c = omega (arith, c .before .before .before .before .before .before .before .before .before .before .if1 .taken, ap (λ (x : Several). x .count) (c .before .keep .ensures .0))
 
-pub gen-inits-gen-inits-requires : (t : ℕ) → gen-inits-lts.Need-gen-inits-requires (
-  body-reads.Asked,
-  body-reads.Learnt,
-  past-reads.Asked,
-  past-reads.Learnt,
-  gen-expr-below t,
-  gen-expr.Post,
-  keep-reads.Asked,
-  keep-reads.Learnt,
-  gen-inits-below t,
-  gen-inits.Post,
-) (gen-inits-at t) gen-inits.Post
-gen-inits-gen-inits-requires t c κs = (omega (arith, c .before .before .before .before .before .before .before .before .before .before .before .before .before .before .before .before .before .pre .0, c .before .before .before .before .before .before .before .before .before .before .before .before .if1 .left), (c .before .before .before .before .before .before .before .before .before .before .before .before .before .before .before .before .before .pre .1 .0, (omega (arith, c .before .before .before .before .before .before .before .before .before .before .before .before .if1 .left), rw (c .before .before .before .keep .ensures .0) (simp length-set (c .before .before .before .before .before .before .before .before .before .before .before .before .before .before .before .before .before .pre .1 .1 .1)))))
+pub gen-inits-loop-again : (t : ℕ) → gen-inits-lts.Need-loop-again (gen-inits-told t) (gen-inits-at t) gen-inits.Post gen-inits-Inv-loop gen-inits-μ-loop
+gen-inits-loop-again t c = inits-go (c .before .before .before .before .before .before .before .before .before .before .before .before .before .before .before .before .before .args .img .now) _ _ _ (c .before .before .before .before .before .before .before .before .before .before .before .before .before .before .before .before .before .args .rules) (c .before .before .before .before .before .before .before .before .before .before .before .before .before .before .before .before .before .args .scope .now) (c .before .before .before .before .before .before .before .before .before .before .before .before .before .before .before .before .before .args .depth) (c .before .before .before .before .before .before .before .before .before .before .before .before .before .before .before .before .before .args .e) (c .before .before .before .before .before .before .before .before .before .before .before .before .loop .inv) (c .before .before .before .before .before .before .before .before .before .before .if1 .taken) (ltb-true _ _ (c .before .before .before .before .before .before .before .before .before .if2 .taken)) (c .before .before .before .before .before .gen-expr .ensures) (rw (c .before .before .before .before .before .before .before .before .body .ensures .0) at (c .before .before .before .before .before .before .before .past .ensures .0)) (c .before .keep .ensures .0) (c .before .keep .ensures .1) (c .past2 .ensures .0) (c .before .before .before .before .before .gen-expr .kept .0)
 
-pub gen-inits-same-length : (t : ℕ) → gen-inits-lts.Need-same-length (
-  body-reads.Asked,
-  body-reads.Learnt,
-  past-reads.Asked,
-  past-reads.Learnt,
-  gen-expr-below t,
-  gen-expr.Post,
-  keep-reads.Asked,
-  keep-reads.Learnt,
-  gen-inits-below t,
-  gen-inits.Post,
-) (gen-inits-at t) gen-inits.Post
-gen-inits-same-length t c = search needs
+pub gen-inits-same-length : (t : ℕ) → gen-inits-lts.Need-same-length (gen-inits-told t) (gen-inits-at t) gen-inits.Post gen-inits-Inv-loop gen-inits-μ-loop
+gen-inits-same-length t c = c .before .before .before .loop .inv .code
 
-pub gen-inits-returns-3 : (t : ℕ) → gen-inits-lts.Need-returns-3 (
-  body-reads.Asked,
-  body-reads.Learnt,
-  past-reads.Asked,
-  past-reads.Learnt,
-  gen-expr-below t,
-  gen-expr.Post,
-  keep-reads.Asked,
-  keep-reads.Learnt,
-  gen-inits-below t,
-  gen-inits.Post,
-) (gen-inits-at t) gen-inits.Post
-gen-inits-returns-3 t c = gather-more _ (c .before .before .before .before .before .before .before .before .before .before .before .before .before .before .before .before .before .before .before .before .args .st) (c .before .before .before .before .before .before .before .before .before .before .gen-expr .result) _ _ _ _ _ _ (λ (n : ℕ). gen-inits (rulesOf (c .before .before .before .before .before .before .before .before .before .before .before .before .before .before .before .before .before .before .before .before .args .rules)) (contractAt (c .before .before .before .before .before .before .before .before .before .before .before .before .before .before .before .before .before .before .before .before .args .img .now)) (initsFrom (64 - (c .before .before .before .before .before .before .before .before .before .before .before .before .before .before .before .before .before .before .before .before .args .i + 1)) (exprAt (c .before .before .before .before .before .before .before .before .before .before .before .before .before .before .before .before .before .before .before .before .args .depth) (c .before .before .before .before .before .before .before .before .before .before .before .before .before .before .before .before .before .before .before .before .args .img .now)) (c .before .before .before .before .before .before .before .before .before .before .before .before .before .before .before .before .before .before .before .before .args .img .now) (after (c .before .before .before .before .before .before .before .before .before .before .before .before .before .before .before .before .before .before .before .before .args .img .now) (c .before .before .before .before .before .before .before .before .before .before .before .before .before .before .before .before .before .before .before .before .args .p)) (c .before .before .before .before .before .before .before .before .before .before .before .before .before .before .before .before .before .before .before .before .args .e)) (scopeIn (c .before .before .before .before .before .before .before .before .before .before .before .before .before .before .before .before .before .before .before .before .args .img .now) (c .before .before .before .before .before .before .before .before .before .before .before .before .before .before .before .before .before .before .before .before .args .scope .now)) n) _ (inits-more (c .before .before .before .before .before .before .before .before .before .before .before .before .before .before .before .before .before .before .before .before .args .rules) _ _ _ _ _ _ _ _ (c .before .before .before .before .before .before .before .before .before .before .before .before .before .before .before .if1 .left) (c .before .before .before .before .before .before .before .before .before .before .before .before .before .before .if2 .left)) (c .before .before .before .before .before .before .before .before .before .before .before .before .before .before .before .if1 .left) (c .before .before .before .before .before .before .before .before .before .before .before .before .before .before .before .before .before .before .before .before .pre .1 .1 .1) (c .before .before .before .before .before .before .keep .ensures .1) (rw (c .before .before .before .before .before .before .before .before .before .before .before .before .past .ensures .0, c .before .before .before .before .before .before .before .before .before .before .before .before .before .body .ensures .0) at (c .before .before .before .before .before .before .before .before .before .before .gen-expr .ensures)) (c .before .before .before .before .before .before .keep .ensures .0) (rw (c .before .before .before .past2 .ensures .0) at (c .before .before .gen-inits .ensures))
+pub gen-inits-returns : (t : ℕ) → gen-inits-lts.Need-returns (gen-inits-told t) (gen-inits-at t) gen-inits.Post gen-inits-Inv-loop gen-inits-μ-loop
+gen-inits-returns t c = gather-end _ _ _ _ (c .before .before .before .loop .inv) (inits-end (c .before .before .before .before .before .before .before .before .args .rules) _ _ _ _ _ _ _ _ (ltb-false _ _ (c .if2 .left)))
+
+pub gen-inits-same-length-2 : (t : ℕ) → gen-inits-lts.Need-same-length-2 (gen-inits-told t) (gen-inits-at t) gen-inits.Post gen-inits-Inv-loop gen-inits-μ-loop
+gen-inits-same-length-2 t c = c .before .before .loop .inv .code
+
+pub gen-inits-returns-2 : (t : ℕ) → gen-inits-lts.Need-returns-2 (gen-inits-told t) (gen-inits-at t) gen-inits.Post gen-inits-Inv-loop gen-inits-μ-loop
+gen-inits-returns-2 t c = gather-end _ _ _ _ (c .before .before .loop .inv) (inits-full (c .before .before .before .before .before .before .before .args .rules) _ _ _ _ _ _ _ _ (c .if1 .left))

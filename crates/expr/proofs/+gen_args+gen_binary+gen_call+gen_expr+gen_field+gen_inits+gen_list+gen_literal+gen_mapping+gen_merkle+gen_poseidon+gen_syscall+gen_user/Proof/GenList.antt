@@ -77,4 +77,4 @@ pub gen-list-returns : (t : ℕ) → gen-list-lts.Need-returns (
   gen-args-below t,
   gen-args.Post,
 ) (gen-list-at t) gen-list.Post
-gen-list-returns t c = args-at (c .before .before .before .before .before .before .before .before .before .before .before .before .before .args .img .now) (c .before .before .before .before .before .before .before .before .before .before .before .before .before .args .scope .now) (c .before .before .before .before .before .before .before .before .before .before .before .before .before .args .rules) (c .before .before .before .before .before .before .before .before .before .before .before .before .before .args .st) _ _ _ _ _ _ _ _ _ _ (rw (c .before .before .before .before .before .before .before .before .body .ensures .0) at (c .before .before .before .before .before .before .before .past .ensures .0)) (c .before .before .before .before .before .before .body2 .ensures .0) (c .before .before .before .before .before .past2 .ensures .0) (c .before .before .gen-args .ensures)
+gen-list-returns t c = args-at (c .before .before .before .before .before .before .before .before .before .before .before .before .before .args .img .now) (c .before .before .before .before .before .before .before .before .before .before .before .before .before .args .scope .now) (c .before .before .before .before .before .before .before .before .before .before .before .before .before .args .rules) (c .before .before .before .before .before .before .before .before .before .before .before .before .before .args .st) _ _ _ _ _ _ _ _ _ (rw (c .before .before .before .before .before .before .before .before .body .ensures .0) at (c .before .before .before .before .before .before .before .past .ensures .0)) (c .before .before .before .before .before .before .body2 .ensures .0) (c .before .before .before .before .before .past2 .ensures .0) (c .before .before .gen-args .ensures)

@@ -171,4 +171,4 @@ pub gen-literal-returns : (t : ℕ) → gen-literal-lts.Need-returns (
   close-literal-reads.Asked,
   close-literal-reads.Learnt,
 ) (gen-literal-at t) gen-literal.Post
-gen-literal-returns t c = literal-value (c .before .before .before .before .before .before .before .before .before .before .before .before .before .before .before .before .before .before .before .before .before .before .before .args .img .now) (c .before .before .before .before .before .before .before .before .before .before .before .before .before .before .before .before .before .before .before .before .before .before .before .args .scope .now) (c .before .before .before .before .before .before .before .before .before .before .before .before .before .before .before .before .before .before .before .before .before .before .before .args .rules) (c .before .before .before .before .before .before .before .before .before .before .before .before .before .before .before .before .before .before .before .before .before .before .before .args .st) _ _ _ _ _ _ _ _ _ _ _ _ _ _ _ (c .before .before .before .before .before .before .before .before .before .before .before .before .before .heap .ensures) (rw (c .before .before .before .before .before .before .before .before .before .before .before .before .before .before .before .before .before .before .body .ensures .0) at (c .before .before .before .before .before .before .before .before .before .before .before .before .before .before .before .before .before .past .ensures .0)) (c .before .before .before .before .before .before .before .before .before .before .before .before .before .before .before .before .body2 .ensures .0) (c .before .before .before .before .before .before .before .before .before .before .before .before .before .before .before .past2 .ensures .0) (c .before .before .before .before .before .before .before .before .before .before .before .before .emit-new .ensures) (c .before .before .before .before .before .before .before .gen-inits .ensures) (c .before .before .close-literal .ensures)
+gen-literal-returns t c = literal-value (c .before .before .before .before .before .before .before .before .before .before .before .before .before .before .before .before .before .before .before .before .before .before .before .args .img .now) (c .before .before .before .before .before .before .before .before .before .before .before .before .before .before .before .before .before .before .before .before .before .before .before .args .scope .now) (c .before .before .before .before .before .before .before .before .before .before .before .before .before .before .before .before .before .before .before .before .before .before .before .args .rules) (c .before .before .before .before .before .before .before .before .before .before .before .before .before .before .before .before .before .before .before .before .before .before .before .args .st) _ _ _ _ _ _ _ _ _ _ _ _ _ _ (c .before .before .before .before .before .before .before .before .before .before .before .before .before .heap .ensures) (rw (c .before .before .before .before .before .before .before .before .before .before .before .before .before .before .before .before .before .before .body .ensures .0) at (c .before .before .before .before .before .before .before .before .before .before .before .before .before .before .before .before .before .past .ensures .0)) (c .before .before .before .before .before .before .before .before .before .before .before .before .before .before .before .before .body2 .ensures .0) (c .before .before .before .before .before .before .before .before .before .before .before .before .before .before .before .past2 .ensures .0) (c .before .before .before .before .before .before .before .before .before .before .before .before .emit-new .ensures) (c .before .before .before .before .before .before .before .gen-inits .ensures) (c .before .before .close-literal .ensures)

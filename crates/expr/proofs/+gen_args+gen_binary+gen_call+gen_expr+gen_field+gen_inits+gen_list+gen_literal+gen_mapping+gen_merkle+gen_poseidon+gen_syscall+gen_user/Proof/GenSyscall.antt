@@ -67,4 +67,4 @@ pub gen-syscall-returns : (t : ℕ) → gen-syscall-lts.Need-returns (
   emit-new-reads.Asked,
   emit-new-reads.Learnt,
 ) (gen-syscall-at t) gen-syscall.Post
-gen-syscall-returns t c = asked-value (c .before .before .before .before .before .before .before .before .before .before .before .before .before .args .img .now) (c .before .before .before .before .before .before .before .before .before .before .before .before .before .args .scope .now) (c .before .before .before .before .before .before .before .before .before .before .before .before .before .args .rules) (c .before .before .before .before .before .before .before .before .before .before .before .before .before .args .st) _ _ _ _ _ _ _ _ _ _ _ _ (c .before .before .before .before .before .before .gen-list .ensures) (c .before .before .before .before .unheard .ensures) (c .before .before .emit-new .ensures)
+gen-syscall-returns t c = asked-value (c .before .before .before .before .before .before .before .before .before .before .before .before .before .args .img .now) (c .before .before .before .before .before .before .before .before .before .before .before .before .before .args .scope .now) (c .before .before .before .before .before .before .before .before .before .before .before .before .before .args .rules) (c .before .before .before .before .before .before .before .before .before .before .before .before .before .args .st) _ _ _ _ _ _ _ _ _ _ _ (c .before .before .before .before .before .before .gen-list .ensures) (c .before .before .before .before .unheard .ensures) (c .before .before .emit-new .ensures)

@@ -90,7 +90,7 @@ pub gen-user-function-index-requires : (t : ℕ) → gen-user-lts.Need-function-
   close-call-reads.Asked,
   close-call-reads.Learnt,
 ) (gen-user-at t) gen-user.Post
-gen-user-function-index-requires t c κs = search needs
+gen-user-function-index-requires t c κs = c .before .before .before .before .before .before .before .before .before .before .before .before .before .before .before .pre .1
 
 pub gen-user-close-call-requires : (t : ℕ) → gen-user-lts.Need-close-call-requires (
   less-one-reads.Asked,
@@ -138,4 +138,4 @@ pub gen-user-returns : (t : ℕ) → gen-user-lts.Need-returns (
   close-call-reads.Asked,
   close-call-reads.Learnt,
 ) (gen-user-at t) gen-user.Post
-gen-user-returns t c = user-value (c .before .before .before .before .before .before .before .before .before .before .before .before .before .before .before .before .before .before .before .before .before .args .img .now) (c .before .before .before .before .before .before .before .before .before .before .before .before .before .before .before .before .before .before .before .before .before .args .scope .now) (c .before .before .before .before .before .before .before .before .before .before .before .before .before .before .before .before .before .before .before .before .before .args .rules) (c .before .before .before .before .before .before .before .before .before .before .before .before .before .before .before .before .before .before .before .before .before .args .st) _ _ _ _ _ _ _ _ _ _ _ _ _ _ (c .before .before .before .before .before .before .before .before .before .before .before .before .before .before .before .less-one .ensures) (c .before .before .before .before .before .before .before .before .before .before .before .before .before .before .push-up .ensures) (c .before .before .before .before .before .before .before .before .before .gen-list .ensures) (c .before .before .before .before .before .before .body .ensures .0) (c .before .before .before .before .before .function-index .ensures) (c .before .before .close-call .ensures)
+gen-user-returns t c = user-value (c .before .before .before .before .before .before .before .before .before .before .before .before .before .before .before .before .before .before .before .before .before .args .img .now) (c .before .before .before .before .before .before .before .before .before .before .before .before .before .before .before .before .before .before .before .before .before .args .scope .now) (c .before .before .before .before .before .before .before .before .before .before .before .before .before .before .before .before .before .before .before .before .before .args .rules) (c .before .before .before .before .before .before .before .before .before .before .before .before .before .before .before .before .before .before .before .before .before .args .st) _ _ _ _ _ _ _ _ _ _ _ _ _ (c .before .before .before .before .before .before .before .before .before .before .before .before .before .before .before .less-one .ensures) (c .before .before .before .before .before .before .before .before .before .before .before .before .before .before .push-up .ensures) (c .before .before .before .before .before .before .before .before .before .gen-list .ensures) (c .before .before .before .before .before .before .body .ensures .0) (c .before .before .before .before .before .function-index .ensures) (c .before .before .close-call .ensures)

@@ -1,27 +1,44 @@
--- `image::grammar::dues_of`: a List has the item of its class, any other record its parts.
+-- `image::grammar::dues_of`: each return by its test; a List's row is in the table.
 -- Assumes nothing.
-use mathlib.Core.Path.{ap}
+use native.Mathlib.Omega.{arith}
 use borrow.Author.Tests.{eq-eqb, ne-eqb}
-use borrow.Author.Needs.{needs}
 use Rattle.rules.specs.Bytes.{pick}
-use Rattle.image.specs.Rows.{duesOf}
-use Rattle.image.specs.declared.grammar.Row.{Row}
+use Rattle.image.specs.Rows.{inner}
+use borrow.Author.Needs.{needs}
 use Rattle.image.proofs.grammar.dues_of.Statement.{statement}
 use Rattle.image.proofs.grammar.dues_of.Tie as tie
 
-class-of-requires : tie.Need-class-of-requires
-class-of-requires c κs = search needs
+add-result : tie.Need-add-result
+add-result c = let h = c .before .pre .1 (c .if1 .taken) in omega arith
 
-parts-requires : tie.Need-parts-requires
-parts-requires c κs = search needs
+mul-result : tie.Need-mul-result
+mul-result c = let h = c .before .pre .1 (c .if1 .taken) in omega arith
+
+element-copy-out-result : tie.Need-element-copy-out-result
+element-copy-out-result c = let h = c .before .pre .1 (c .if1 .taken) in omega arith
+
+mul-result-2 : tie.Need-mul-result-2
+mul-result-2 c = search needs
+
+element-copy-out-result-2 : tie.Need-element-copy-out-result-2
+element-copy-out-result-2 c = search needs
 
 returns : tie.Need-returns
-unfolding pick duesOf
-returns c = rw (eq-eqb (c .before .before .args .kind) 2 (c .before .if1 .taken)) (ap (λ (r : Row). r .4) (c .class-of .ensures))
+unfolding inner pick
+returns c = rw (eq-eqb (c .before .before .args .kind) 2 (omega arith))
 
 returns-2 : tie.Need-returns-2
-unfolding pick duesOf
-returns-2 c = rw (ne-eqb (c .before .before .args .kind) 2 (c .before .if1 .left)) (c .parts .ensures)
+unfolding inner pick
+returns-2 c = rw (ne-eqb (c .before .before .args .kind) 2 (omega arith))
 
 pub dues-of-spec : {M : Type 1} → statement M
-dues-of-spec = tie.close (tie.spec class-of-requires parts-requires returns returns-2)
+dues-of-spec =
+    tie.close
+    (tie.spec
+    add-result
+    mul-result
+    element-copy-out-result
+    mul-result-2
+    element-copy-out-result-2
+    returns
+    returns-2)

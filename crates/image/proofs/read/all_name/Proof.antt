@@ -1,4 +1,4 @@
--- `image::read::all_name`: the bytes before `p` are of a name; where the eight from there on are not told, one by one decides.
+-- `image::read::all_name`: the bytes before `p` are of a name; where the few or the eight from there on are not told, one by one decides.
 -- Assumes nothing.
 use mathlib.Core.Path.{sym}
 use Prim.Native.Nat.{_-_, _≤_}
@@ -18,11 +18,17 @@ abbrev μ-loop : tie.MeasureT-loop
 sub-if1 : tie.Need-sub-if1 Inv-loop μ-loop
 sub-if1 c = search needs
 
+few-name-requires : tie.Need-few-name-requires Inv-loop μ-loop
+few-name-requires c κs = search needs
+
+returns : tie.Need-returns Inv-loop μ-loop
+returns c = sym (all-named (c .before .before .before .before .args .s .now) (c .before .before .before .before .args .from) (c .before .before .before .before .args .to) (omega arith) (c .before .few-name .ensures (c .if2 .taken)))
+
 each-name-requires : tie.Need-each-name-requires Inv-loop μ-loop
 each-name-requires c κs = search needs
 
-returns : tie.Need-returns Inv-loop μ-loop
-returns c = search needs
+returns-2 : tie.Need-returns-2 Inv-loop μ-loop
+returns-2 c = search needs
 
 loop-holds : tie.Need-loop-holds Inv-loop μ-loop
 loop-holds c = (omega arith, omega arith, λ k l m. absurd (omega arith))
@@ -43,13 +49,13 @@ loop-less : tie.Need-loop-less Inv-loop μ-loop
 loop-less c = omega arith
 
 loop-again : tie.Need-loop-again Inv-loop μ-loop
-loop-again c = (omega (arith, c .before .before .before .loop .inv .0), omega arith, eight-more (c .before .before .before .before .before .before .args .s .now) (c .before .before .before .before .before .before .args .from) (c .before .before .before .loop .p) (c .before .before .before .before .before .before .args .to) (c .before .before .before .loop .inv .2) (c .before .fours-name .ensures (c .if2 .taken)))
+loop-again c = (omega (arith, c .before .before .before .loop .inv .0), omega arith, eight-more (c .before .before .before .before .before .before .args .s .now) (c .before .before .before .before .before .before .args .from) (c .before .before .before .loop .p) (c .before .before .before .before .before .before .args .to) (c .before .before .before .loop .inv .2) (c .before .fours-name .ensures (c .if3 .taken)))
 
 each-name-requires-2 : tie.Need-each-name-requires-2 Inv-loop μ-loop
 each-name-requires-2 c κs = search needs
 
-returns-2 : tie.Need-returns-2 Inv-loop μ-loop
-returns-2 c = search needs
+returns-3 : tie.Need-returns-3 Inv-loop μ-loop
+returns-3 c = search needs
 
 sub-least : tie.Need-sub-least Inv-loop μ-loop
 sub-least c = search needs
@@ -63,14 +69,14 @@ sub-fours-name c = search needs
 fours-name-requires-2 : tie.Need-fours-name-requires-2 Inv-loop μ-loop
 fours-name-requires-2 c κs = search needs
 
-returns-3 : tie.Need-returns-3 Inv-loop μ-loop
-returns-3 c = sym (all-named (c .before .before .before .before .before .before .before .args .s .now) (c .before .before .before .before .before .before .before .args .from) (c .before .before .before .before .before .before .before .args .to) (omega arith) (last-eight (c .before .before .before .before .before .before .before .args .s .now) (c .before .before .before .before .before .before .before .args .from) (c .before .before .before .before .loop .p) (c .before .before .before .before .before .before .before .args .to) (c .before .before .before .before .loop .inv .2) (c .before .before .least .result) (c .before .before .least .ensures) (omega arith) (omega arith) (c .before .fours-name2 .ensures (c .if3 .taken))))
+returns-4 : tie.Need-returns-4 Inv-loop μ-loop
+returns-4 c = sym (all-named (c .before .before .before .before .before .before .before .args .s .now) (c .before .before .before .before .before .before .before .args .from) (c .before .before .before .before .before .before .before .args .to) (omega arith) (last-eight (c .before .before .before .before .before .before .before .args .s .now) (c .before .before .before .before .before .before .before .args .from) (c .before .before .before .before .loop .p) (c .before .before .before .before .before .before .before .args .to) (c .before .before .before .before .loop .inv .2) (c .before .before .least .result) (c .before .before .least .ensures) (omega arith) (omega arith) (c .before .fours-name2 .ensures (c .if4 .taken))))
 
 each-name-requires-3 : tie.Need-each-name-requires-3 Inv-loop μ-loop
 each-name-requires-3 c κs = search needs
 
-returns-4 : tie.Need-returns-4 Inv-loop μ-loop
-returns-4 c = search needs
+returns-5 : tie.Need-returns-5 Inv-loop μ-loop
+returns-5 c = search needs
 
 pub all-name-spec : {M : Type 1} → statement M
 all-name-spec =
@@ -79,8 +85,10 @@ all-name-spec =
     Inv-loop
     μ-loop
     sub-if1
-    each-name-requires
+    few-name-requires
     returns
+    each-name-requires
+    returns-2
     loop-holds
     add-loop
     add-fours-name
@@ -89,11 +97,11 @@ all-name-spec =
     loop-less
     loop-again
     each-name-requires-2
-    returns-2
+    returns-3
     sub-least
     least-requires
     sub-fours-name
     fours-name-requires-2
-    returns-3
+    returns-4
     each-name-requires-3
-    returns-4)
+    returns-5)

@@ -1,18 +1,27 @@
 -- `image::read::word`: the bytes are there.
 -- Assumes nothing.
-use Rattle.rules.specs.Bytes.{le32}
+use Prim.Native.Nat.{_+_}
+use mathlib.Core.Path.{_≡_}
+use native.Mathlib.Omega.{arith}
+use Rattle.rules.specs.Bytes.{le16, le32}
 use borrow.Author.Needs.{needs}
 use Rattle.image.proofs.read.word.Statement.{statement}
 use Rattle.image.proofs.read.word.Tie as tie
 
-half-requires : tie.Need-half-requires
-half-requires c κs = search needs
+shared-slice-read-wide : tie.Need-shared-slice-read-wide
+shared-slice-read-wide c = search needs
 
-add-half : tie.Need-add-half
-add-half c = search needs
+wide-requires : tie.Need-wide-requires
+wide-requires c κs = search needs
 
-half-requires-2 : tie.Need-half-requires-2
-half-requires-2 c κs = search needs
+add-wide : tie.Need-add-wide
+add-wide c = search needs
+
+shared-slice-read-wide-2 : tie.Need-shared-slice-read-wide-2
+shared-slice-read-wide-2 c = search needs
+
+wide-requires-2 : tie.Need-wide-requires-2
+wide-requires-2 c κs = search needs
 
 mul-result : tie.Need-mul-result
 mul-result c = search needs
@@ -20,11 +29,59 @@ mul-result c = search needs
 add-result : tie.Need-add-result
 add-result c = search needs
 
+add-wide-2 : tie.Need-add-wide-2
+add-wide-2 c = search needs
+
+shared-slice-read-wide-3 : tie.Need-shared-slice-read-wide-3
+shared-slice-read-wide-3 c = search needs
+
+wide-requires-3 : tie.Need-wide-requires-3
+wide-requires-3 c κs = search needs
+
+mul-result-2 : tie.Need-mul-result-2
+mul-result-2 c = search needs
+
+add-result-2 : tie.Need-add-result-2
+add-result-2 c = search needs
+
+add-wide-3 : tie.Need-add-wide-3
+add-wide-3 c = search needs
+
+shared-slice-read-wide-4 : tie.Need-shared-slice-read-wide-4
+shared-slice-read-wide-4 c = search needs
+
+wide-requires-4 : tie.Need-wide-requires-4
+wide-requires-4 c κs = search needs
+
+mul-result-3 : tie.Need-mul-result-3
+mul-result-3 c = search needs
+
+add-result-3 : tie.Need-add-result-3
+add-result-3 c = search needs
+
 returns : tie.Need-returns
-unfolding le32
-returns c = search needs
+unfolding le32 le16
+returns c = let e : c .before .before .before .before .before .before .before .before .before .args .at + 2 + 1 ≡ c .before .before .before .before .before .before .before .before .before .args .at + 3 = omega arith in rw e (search needs)
 
 pub word-spec : {M : Type 1} → statement M
 word-spec =
     tie.close
-    (tie.spec half-requires add-half half-requires-2 mul-result add-result returns)
+    (tie.spec
+    shared-slice-read-wide
+    wide-requires
+    add-wide
+    shared-slice-read-wide-2
+    wide-requires-2
+    mul-result
+    add-result
+    add-wide-2
+    shared-slice-read-wide-3
+    wide-requires-3
+    mul-result-2
+    add-result-2
+    add-wide-3
+    shared-slice-read-wide-4
+    wide-requires-4
+    mul-result-3
+    add-result-3
+    returns)

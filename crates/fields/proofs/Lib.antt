@@ -1,0 +1,3 @@
+-- What the proofs of the functions use.
+mod Kept
+mod Positions
