@@ -18,7 +18,7 @@ use Rattle.rules.specs.Machine.{Word, Entry, At, read}
 use Rattle.rules.specs.Layout.{offset}
 use Rattle.rules.specs.Emit.{Rules}
 use Rattle.rules.specs.Link.{Built, Program, functions, generate}
-use Rattle.rules.specs.Build.{rules, passed, clear, analysed, program, wordsOf}
+use Rattle.rules.specs.Build.{passed, clear, analysed, judged, program, wordsOf}
 use Rattle.bounds.specs.Answers.{All, from-ok, all-ok, all-bad, all-bind, all-next, all-map}
 use Rattle.bounds.specs.Held.{Each}
 use Rattle.bounds.specs.Numbers.{Encodable, all-read-back}
@@ -71,10 +71,14 @@ analysed-is img =
     all-bind (passed (checkOf img)) _ (passed-is (checkOf img)) (λ u c.
     all-next (analyse (contractAt img)) _ (λ a. all-ok (contractAt img) (refl, c .0, c .1, c .2)))
 
--- Every program that an image comes to.
-pub program-bounded : (img : List ℕ) (P : Program) → program img ≡ ok P → Bounded P
-unfolding program rules
-program-bounded img P e = from-ok (subst (All (λ (P : Program). Bounded P)) e
-    (all-bind (analysed img) _ (analysed-is img) (λ C c.
-    all-next (clear (firstAmbiguous C)) _ (λ u.
-    subst (λ (D : Contract). All (λ (P : Program). Bounded P) (generate rules D)) (sym (c .0)) (generated rules (omega arith) img (c .1) (c .2) (c .3))))))
+-- And so is one that 30 lets pass.
+pub judged-is : (img : List ℕ) → All (λ (C : Contract). (C ≡ contractAt img) × (q : ℕ) × (m : ℕ) × (checkOf img ≡ Sound q m)) (judged img)
+unfolding judged
+judged-is img = all-bind (analysed img) _ (analysed-is img) (λ C c. all-next (clear (firstAmbiguous C)) _ (λ u. all-ok C c))
+
+-- Every program that an image comes to, for a target of 30 free registers at most.
+pub program-bounded : (R : Rules) → R .free ≤ 30 → (img : List ℕ) (P : Program) → program R img ≡ ok P → Bounded P
+unfolding program
+program-bounded R h img P e = from-ok (subst (All (λ (P : Program). Bounded P)) e
+    (all-bind (judged img) _ (judged-is img) (λ C c.
+    subst (λ (D : Contract). All (λ (P : Program). Bounded P) (generate R D)) (sym (c .0)) (generated R h img (c .1) (c .2) (c .3)))))

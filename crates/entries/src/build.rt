@@ -2,7 +2,7 @@
 ghost use mathlib.Core.Path.{_≡_};
 ghost use Prim.Native.Nat.{ℕ, _/_};
 ghost use lib.ListN.{length};
-ghost use Rattle.rules.specs.Build.{outcome};
+ghost use Rattle.rules.specs.Build.{rules, outcome};
 ghost use Rattle.tables.specs.Listed.{Tabled, functionsIn};
 ghost use Rattle.compiler.specs.Ends.{Built};
 ghost use Rattle.compiler.specs.Stages.{Leaves};
@@ -20,12 +20,19 @@ struct Made {
 
 // All but the function table, which has room for so many entries.
 fn work(image: &[u8], code: &mut [u64], room: usize) -> Made
-    ensures { λ r. ⌜ ((t : ℕ) → t / 3 ≡ room → Leaves (now (image .entry)) (now (code .entry)) (r .answer) (now (code .exit)) (r .firsts) (r .tables) (outcome (now (image .entry)) (length (now (code .entry))) t))
+    ensures { λ r. ⌜ ((t : ℕ) → t / 3 ≡ room → Leaves (now (image .entry)) (now (code .entry)) (r .answer) (now (code .exit)) (r .firsts) (r .tables) (outcome rules (now (image .entry)) (length (now (code .entry))) t))
         × (Tabled (now (image .entry)) (r .tables) → r .n ≡ length (functionsIn (now (image .entry)))) ⌝ }
 {
     let mut tables = [0usize; tables::SIZE];
     let mut firsts = [0usize; 256];
-    let answer = compiler::stages::make(code, &mut firsts, &mut tables, image, room);
+    let answer = compiler::stages::make(
+        code,
+        &mut firsts,
+        &mut tables,
+        image,
+        room,
+        compiler::stages::target(),
+    );
     Made {
         answer,
         n: tables[tables::FUNCTIONS],
@@ -36,7 +43,7 @@ fn work(image: &[u8], code: &mut [u64], room: usize) -> Made
 
 // The same whole answer as compiler::build's, over the numbers of the entries.
 pub fn build_entries(image: &[u8], code: &mut [u64], table: &mut [Entry]) -> Answer
-    ensures { λ r. ⌜ Built (now (image .entry)) (now (code .entry)) (numbersOf (now (table .entry))) r (now (code .exit)) (numbersOf (now (table .exit))) ⌝ }
+    ensures { λ r. ⌜ Built rules (now (image .entry)) (now (code .entry)) (numbersOf (now (table .entry))) r (now (code .exit)) (numbersOf (now (table .exit))) ⌝ }
 {
     let m = work(image, code, table.len());
     if m.answer.refusal == 0 {

@@ -9,6 +9,7 @@ use Rattle.rules.specs.Machine.{Entry, At, numberOf}
 use Rattle.rules.specs.Lent.{over, spread}
 use Rattle.rules.specs.Refusal.{Res, ok}
 use Rattle.rules.specs.Read.{contractAt}
+use Rattle.rules.specs.Emit.{Rules}
 use Rattle.rules.specs.Link.{Program}
 use Rattle.rules.specs.Build.{program, outcome, programAnswer, wordsOf, threeOf, at-exit, buildOf, codeOf, tableOf}
 use Rattle.heights.specs.Entries.{Covers, Like, Alike}
@@ -84,34 +85,34 @@ listed-from (e ∷ T) (x ∷ U) (p, q, l) (suc k) d a = listed-from T U l k d a
 
 -- What stands in the lent slices after a build: the first `count` numbers of the code slice, and an entry for each function of the
 -- contract.
-unfoldable pub wordsIn : (img code table : List ℕ) → List ℕ
-wordsIn img code table = take (buildOf img code table .count) (codeOf img code table)
+unfoldable pub wordsIn : Rules → (img code table : List ℕ) → List ℕ
+wordsIn R img code table = take (buildOf R img code table .count) (codeOf R img code table)
 
 -- The entries.
-unfoldable pub tableIn : (img code table : List ℕ) → List Entry
-tableIn img code table = entriesIn (length (contractAt img .functions)) (buildOf img code table .count) (tableOf img code table)
+unfoldable pub tableIn : Rules → (img code table : List ℕ) → List Entry
+tableIn R img code table = entriesIn (length (contractAt img .functions)) (buildOf R img code table .count) (tableOf R img code table)
 
 -- Of a build that answers 0 these are the program's.
-pub record Lent (img code table : List ℕ) : Type 0 where
+pub record Lent (R : Rules) (img code table : List ℕ) : Type 0 where
   pub P : Program
-  pub is : program img ≡ ok P
-  pub words : wordsIn img code table ≡ wordsOf P
-  pub entries : Listed (P .table) (tableIn img code table)
+  pub is : program R img ≡ ok P
+  pub words : wordsIn R img code table ≡ wordsOf P
+  pub entries : Listed (P .table) (tableIn R img code table)
 
 -- What stands there is the program.
-pub lent : (img code table : List ℕ) → buildOf img code table .refusal ≡ 0 → Lent img code table
+pub lent : (R : Rules) (img code table : List ℕ) → buildOf R img code table .refusal ≡ 0 → Lent R img code table
 unfolding wordsIn tableIn buildOf codeOf tableOf programAnswer at-exit wordsOf
-lent img code table z = from (accepted img code table z)
+lent R img code table z = from (accepted R img code table z)
   where
-    from : (P : Program) × (outcome img (length code) (length table) ≡ ok P) × Fitting img (length code) (length table) P → Lent img code table
+    from : (P : Program) × (outcome R img (length code) (length table) ≡ ok P) × Fitting R img (length code) (length table) P → Lent R img code table
     from (P, e, f) = record {
       P = P;
       is = f .is;
       words = subst (λ (m : Res Program). take (programAnswer m .count) (at-exit wordsOf m code) ≡ wordsOf P) (sym e)
           (subst (λ (n : ℕ). take n (over (wordsOf P) code) ≡ wordsOf P) same (take-over (wordsOf P) code (omega (arith, f .words, same))));
       entries = subst (λ (m : Res Program). Listed (P .table) (entriesIn (length (contractAt img .functions)) (programAnswer m .count) (at-exit (λ (Q : Program). spread threeOf (Q .table)) m table))) (sym e)
-          (subst (λ (k : ℕ). Listed (P .table) (entriesIn k (length (P .words)) (over (spread threeOf (P .table)) table))) (mirrors-length (contractAt img .functions) (P .table) (obeyed img P (f .is) .mirrors))
-          (entries-read 3 (length (P .words)) (P .table) table (omega (arith, f .table)) (obeyed img P (f .is) .covers)));
+          (subst (λ (k : ℕ). Listed (P .table) (entriesIn k (length (P .words)) (over (spread threeOf (P .table)) table))) (mirrors-length (contractAt img .functions) (P .table) (obeyed R img P (f .is) .mirrors))
+          (entries-read 3 (length (P .words)) (P .table) table (omega (arith, f .table)) (obeyed R img P (f .is) .covers)));
     }
       where
         same : length (wordsOf P) ≡ length (P .words)

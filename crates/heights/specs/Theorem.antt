@@ -18,7 +18,7 @@ use Rattle.rules.specs.Machine.{Entry, At, Heights}
 use Rattle.rules.specs.Emit.{Rules, Open}
 use Rattle.rules.specs.Generate.{function}
 use Rattle.rules.specs.Link.{Program, functions, link, opening, with-main, generate}
-use Rattle.rules.specs.Build.{rules, passed, clear, analysed, program}
+use Rattle.rules.specs.Build.{passed, clear, analysed, judged, program}
 use Rattle.heights.specs.Positions.{at-right}
 use Rattle.heights.specs.Entries.{Covers, apart}
 use Rattle.heights.specs.Certificate.{heights}
@@ -105,16 +105,20 @@ pub generated-obeys : (R : Rules) (C : Contract) → All (λ u. All (Obeys (C .f
 generated-obeys R C = all-map (analysis-fits C) (λ u q. generated R C q)
 
 -- Image by image.
-analysed-obeys : (img : List ℕ) → All (λ (C : Contract). All (Obeys (contractAt img .functions)) (generate rules C)) (analysed img)
+analysed-obeys : (R : Rules) (img : List ℕ) → All (λ (C : Contract). All (Obeys (contractAt img .functions)) (generate R C)) (analysed img)
 unfolding analysed
-analysed-obeys img =
+analysed-obeys R img =
     all-next (passed (checkOf img)) _ (λ c.
-    all-bind (analyse (contractAt img)) _ (generated-obeys rules (contractAt img)) (λ u q. all-ok (contractAt img) q))
+    all-bind (analyse (contractAt img)) _ (generated-obeys R (contractAt img)) (λ u q. all-ok (contractAt img) q))
 
-program-obeys : (img : List ℕ) → All (Obeys (contractAt img .functions)) (program img)
+judged-obeys : (R : Rules) (img : List ℕ) → All (λ (C : Contract). All (Obeys (contractAt img .functions)) (generate R C)) (judged img)
+unfolding judged
+judged-obeys R img = all-bind (analysed img) _ (analysed-obeys R img) (λ C q. all-next (clear (firstAmbiguous C)) _ (λ u. all-ok C q))
+
+program-obeys : (R : Rules) (img : List ℕ) → All (Obeys (contractAt img .functions)) (program R img)
 unfolding program
-program-obeys img = all-bind (analysed img) _ (analysed-obeys img) (λ C q. all-next (clear (firstAmbiguous C)) _ (λ u. q))
+program-obeys R img = all-bind (judged img) _ (judged-obeys R img) (λ C q. q)
 
 -- Of an accepted image every function obeys the law.
-pub obeyed : (img : List ℕ) (P : Program) → program img ≡ ok P → Obeys (contractAt img .functions) P
-obeyed img P e = from-ok (subst (All (Obeys (contractAt img .functions))) e (program-obeys img))
+pub obeyed : (R : Rules) (img : List ℕ) (P : Program) → program R img ≡ ok P → Obeys (contractAt img .functions) P
+obeyed R img P e = from-ok (subst (All (Obeys (contractAt img .functions))) e (program-obeys R img))

@@ -1,4 +1,4 @@
--- The functions of a contract in turn, and the answer of an image.
+-- The functions of a contract in turn.
 use mathlib.Core.List.{List, [], _∷_, map}
 use mathlib.Core.Path.{_≡_, refl, sym}
 use Prim.Native.Nat.{ℕ, zero, suc, _+_, _*_, _≤_, _<_}
@@ -12,7 +12,7 @@ use Rattle.rules.specs.Tree.{Function}
 use Rattle.rules.specs.Refusal.{Refusal, Res, ok, bad, _>>=_, answer, refused}
 use Rattle.rules.specs.Analyse.{function, functions, analyse}
 use Rattle.rules.specs.Read.{functionAt, contractAt}
-use Rattle.rules.specs.Build.{passed, analysed, analysisAnswer, analyseOf}
+use Rattle.rules.specs.Build.{passed}
 use Rattle.bounds.specs.Held.{each-of-map, each-get}
 use Rattle.bounds.specs.Contracts.{names-few}
 use Rattle.tables.specs.Listed.{functionsIn}
@@ -66,17 +66,3 @@ module _ (img : List ℕ) where
       pub from-bad : {r : Refusal} → bad r ≡ function (contractAt img) (functionAt img (getD (functionsIn img) i 0)) → bad r ≡ from img i
       unfolding functions
       from-bad h = rw (drop-get (functionsIn img) i l) (then-bad _ h)
-
-  -- 01: rows 1 to 7
-  pub not-passed : (n p : ℕ) → checkOf img ≡ Fault n p → answer n p 0 ≡ analyseOf img
-  unfolding analyseOf analysed passed _>>=_ analysisAnswer refused
-  not-passed n p h = rw h
-
-  -- 01: row 0, and rows 10 to 22
-  pub analysed-ok : Passed img → ok tt ≡ analyse (contractAt img) → answer 0 0 0 ≡ analyseOf img
-  unfolding analyseOf analysed analysisAnswer _>>=_
-  analysed-ok h q = rw (h, ← q)
-
-  pub analysed-bad : Passed img → (r : Refusal) → bad r ≡ analyse (contractAt img) → refused r ≡ analyseOf img
-  unfolding analyseOf analysed analysisAnswer _>>=_
-  analysed-bad h r q = rw (h, ← q)

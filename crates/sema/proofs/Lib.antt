@@ -4,3 +4,4 @@ pub mod Lists
 pub mod Runs
 pub mod Bodies
 pub mod Functions
+pub mod Fronts

@@ -1,3 +1,4 @@
 pub mod Arguments
 pub mod Steps
 pub mod Entry
+pub mod Front

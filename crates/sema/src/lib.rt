@@ -1,4 +1,7 @@
 // 001: sema.rs, all of it, over the image. A name is the place of its record; the names in scope stand in a lent array.
+// front.rt: what stands before generation, in its order.
+pub mod front;
+
 use lookup::Callee;
 use lookup::Checked;
 use lookup::Due;
@@ -8,7 +11,6 @@ use lookup::Misfit;
 use lookup::Ty;
 use lookup::Typed;
 use rules::Answer;
-use rules::Seen;
 use tables::Found;
 ghost use mathlib.Core.Path.{_≡_};
 ghost use mathlib.Core.List.{List};
@@ -716,7 +718,8 @@ pub fn analyse_checked(env: &mut [usize], img: &[u8], tables: &[usize]) -> Check
     Checked::Fine
 }
 
-fn answer_at(number: u64, place: usize) -> Answer
+// A refusal has no count.
+pub fn answer_at(number: u64, place: usize) -> Answer
     ensures { λ r. ⌜ r ≡ answer number place 0 ⌝ }
 {
     Answer {
@@ -747,27 +750,11 @@ pub fn refusal(f: Fault) -> Answer
     }
 }
 
-fn analyse_passed(img: &[u8]) -> Answer
-    requires { ⌜ Passed (now img) ⌝ }
-    ensures { λ r. ⌜ r ≡ analyseOf (now (img .entry)) ⌝ }
-{
-    let mut tables = [0usize; tables::SIZE];
-    tables::fill_tables(&mut tables, img);
-    let mut env = [0usize; 2048];
-    let a = analyse_checked(&mut env, img, &tables);
-    match a {
-        Checked::Fine => answer_at(0, 0),
-        Checked::Refused(f) => refusal(f),
-    }
-}
-
 // 01: the first public answer: the check, then the analysis. It writes nothing.
 pub fn analyse(image: &[u8]) -> Answer
     ensures { λ r. ⌜ r ≡ analyseOf (now (image .entry)) ⌝ }
 {
-    let s = image::check(image);
-    match s {
-        Seen::Fault(number, place) => answer_at(number as u64, place),
-        Seen::Sound(_, _) => analyse_passed(image),
-    }
+    let mut tables = [0usize; tables::SIZE];
+    let mut names = [0usize; 2048];
+    front::answer_of(front::analysis(&mut tables, &mut names, image))
 }

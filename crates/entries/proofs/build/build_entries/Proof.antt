@@ -51,6 +51,7 @@ use Rattle.rules.proofs.Answer as B
 use Rattle.rules.proofs.Answer.Laws as B′
 use Rattle.tables.specs.Listed.{Tabled, functionsIn}
 use Rattle.tables.specs.Carried.{few}
+use Rattle.rules.specs.Build.{rules}
 use Rattle.compiler.specs.Ends.{Built}
 use Rattle.entries.specs.declared.Entry.{Entry}
 use Rattle.entries.specs.declared.build.Made.{Made}
@@ -155,7 +156,7 @@ module _ {M : Type 1} (𝓤 : URA M) (H : Heap 𝓤) (A : Atoms 𝓤) (W : Given
   abbrev TokT : Item 𝓤
   TokT = ‵ (flft κ₂ q₂) ⊛ ‵ ftrue
 
-  exits : (r : Answer) (zs : List ℕ) (ws : List Entry) → Is B.the-row r (B′.lowered r ∷ []) → length zs ≡ length (xc .now) → length ws ≡ length ys → Built (xi .now) (xc .now) (numbersOf ys) r zs (numbersOf ws)
+  exits : (r : Answer) (zs : List ℕ) (ws : List Entry) → Is B.the-row r (B′.lowered r ∷ []) → length zs ≡ length (xc .now) → length ws ≡ length ys → Built rules (xi .now) (xc .now) (numbersOf ys) r zs (numbersOf ws)
       → ent 𝓤 (⋆ 𝓤 H A (TokIC ∷ TokT ∷ ‵ OwnI ∷ ‵ (finally u64 (xc .name) zs) ∷ ‵ (finally T.the-row (xt .name) ws) ∷ [])) (Post (B′.lowered r))
   exits r zs ws gb lz lw built =
       qed W (TokIC ∷ TokT ∷ ‵ OwnI ∷ ‵ (finally u64 (xc .name) zs) ∷ ‵ (finally T.the-row (xt .name) ws) ∷ []) ∵
@@ -185,7 +186,7 @@ module _ {M : Type 1} (𝓤 : URA M) (H : Heap 𝓤) (A : Atoms 𝓤) (W : Given
   Locals l₀ l₁ l₂ l₃ l₄ l₅ l₆ l₇ l₈ l₉ l₁₀ l₁₁ l₁₂ l₁₃ l₁₄ l₁₅ l₁₆ l₁₇ l₁₈ l₁₉ l₂₀ = (B′.mir, l₀) ∷ (imageTy, l₁) ∷ (codeTy, l₂) ∷ (tableTy, l₃) ∷ (P′.mir, l₄) ∷ (words 1824, l₅) ∷ (words 256, l₆) ∷ (wordRef, l₇) ∷ (sliceTy wordRef, l₈) ∷ (word, l₉) ∷ (tyBool, l₁₀) ∷ (tyUnit, l₁₁) ∷ (entryRef, l₁₂) ∷ (sliceTy entryRef, l₁₃) ∷ (tyRef erased imm (words 1824), l₁₄) ∷ (sliceTy sharedRef, l₁₅) ∷ (tyRef erased imm (words 256), l₁₆) ∷ (sliceTy sharedRef, l₁₇) ∷ (tyUnit, l₁₈) ∷ (entryRef, l₁₉) ∷ (sliceTy entryRef, l₂₀) ∷ []
 
   -- behind `work`: what it made, the code's last list
-  module _ (m : Made) (zs : List ℕ) (gm : Is P.the-row m (P′.lowered m ∷ [])) (lz : length zs ≡ length (xc .now)) (left : Left (xi .now) (xc .now) ys (m .answer) zs (m .firsts) (m .tables))
+  module _ (m : Made) (zs : List ℕ) (gm : Is P.the-row m (P′.lowered m ∷ [])) (lz : length zs ≡ length (xc .now)) (left : Left rules (xi .now) (xc .now) ys (m .answer) zs (m .firsts) (m .tables))
       (counted : Tabled (xi .now) (m .tables) → m .n ≡ length (functionsIn (xi .now))) where
     ga : Is B.the-row (m .answer) (B′.lowered (m .answer) ∷ [])
     ga = LL.owed P.the-type P′.the-laws m _ gm .0
@@ -240,7 +241,7 @@ module _ {M : Type 1} (𝓤 : URA M) (H : Heap 𝓤) (A : Atoms 𝓤) (W : Given
       abbrev to-fill : Fill 𝓤 H A mem run .Ghost
       to-fill = (((κ₂, (κ₀, (α ∷ [], (β ∷ [], tt)))), (q₂, (q₀, (fullShare, (fullShare, tt)))), tt, (xt, (xi, (xs, (xf, (m .n, tt))))), (tv ∷ [], (iv ∷ [], (sv ∷ [], (fv ∷ [], (vint w64 (m .n) ∷ [], tt)))))), tt)
 
-      goes-fill : Fitting (xi .now) (xc .now) ys (m .answer) zs (m .firsts) (m .tables) (m .n) → ent 𝓤 (⋆ 𝓤 H A (TokAll ∷ OwnAll ∷ [])) (Fill 𝓤 H A mem run .pre to-fill)
+      goes-fill : Fitting rules (xi .now) (xc .now) ys (m .answer) zs (m .firsts) (m .tables) (m .n) → ent 𝓤 (⋆ 𝓤 H A (TokAll ∷ OwnAll ∷ [])) (Fill 𝓤 H A mem run .pre to-fill)
       goes-fill fit =
           qed W (TokAll ∷ OwnAll ∷ []) ∵ says ! (fit .tabled, (all, (some-first, fit .room))) $ frame ! $
           split ! $ move ! (1 ∷ []) $ split ! $ move ! (1 ∷ []) $ split ! $
@@ -269,7 +270,7 @@ module _ {M : Type 1} (𝓤 : URA M) (H : Heap 𝓤) (A : Atoms 𝓤) (W : Given
           ∷ ‵ (froom (words 1824) l₅ 0) ∷ ‵ (fdies (words 1824) l₅) ∷ ‵ (fat fullShare P′.mir l₄ 0 (P′.lowered m)) ∷ ‵ (fdies P′.mir l₄) ∷ ‵ (froom tableTy l₃ 0) ∷ ‵ (fdies tableTy l₃)
           ∷ ‵ (froom codeTy l₂ 0) ∷ ‵ (fdies codeTy l₂) ∷ ‵ (froom imageTy l₁ 0) ∷ ‵ (fdies imageTy l₁) ∷ ‵ (froom B′.mir l₀ 0) ∷ ‵ (fdies B′.mir l₀) ∷ []
 
-      ends : (ws : List Entry) → length ws ≡ length ys → Built (xi .now) (xc .now) (numbersOf ys) (m .answer) zs (numbersOf ws) → Sq W (Tail ws) (runs C Λ En piece.t-7 (atRet En Post))
+      ends : (ws : List Entry) → length ws ≡ length ys → Built rules (xi .now) (xc .now) (numbersOf ys) (m .answer) zs (numbersOf ws) → Sq W (Tail ws) (runs C Λ En piece.t-7 (atRet En Post))
       ends ws lw built =
           assigns ! (of-opd ! (load ! (from ! (fld ! refl (stop !))) (look-in ! 37 (sub ! 0 refl (whole !))))) (from ! (stop !)) (init ! 45 refl (LL.lawful B.the-type B′.the-laws 𝓤 H A W .typed (m .answer) _ ga .0)) $
           returns ! (look ! 45 refl) $ forget ! 37 refl $ forget ! 45 refl $
@@ -290,7 +291,7 @@ module _ {M : Type 1} (𝓤 : URA M) (H : Heap 𝓤) (A : Atoms 𝓤) (W : Given
       forks : Sq W Mid (runs C Λ En piece.s-6 (anyQ (afterSeq 𝓤 H (Wp 𝓤 H C Λ En piece.t-7 (atReturn 𝓤 H En Post)) (atReturn 𝓤 H En Post))))
       forks = branches ! (load ! (from ! (stop !)) (look ! 25 refl))
           -- accepted: the arrays are lent to `fill`
-          (λ zero. let fit = accepted (xi .now) (xc .now) ys (m .answer) zs (m .firsts) (m .tables) left (eqb→eq (m .answer .refusal) 0 zero) (m .n) counted in
+          (λ zero. let fit = accepted rules (xi .now) (xc .now) ys (m .answer) zs (m .firsts) (m .tables) left (eqb→eq (m .answer .refusal) 0 zero) (m .n) counted in
           assigns ! (of-opd ! (load ! (from ! (fld ! refl (stop !))) (look-in ! 37 (sub ! 2 refl (whole !))))) (from ! (stop !)) (init ! 35 refl (array-lawful 𝓤 H A W usize (uint-lawful 𝓤 H A W w64) 1824 .typed (m .tables) _ gs .0)) $
           assigns ! (of-opd ! (load ! (from ! (fld ! refl (stop !))) (look-in ! 37 (sub ! 3 refl (whole !))))) (from ! (stop !)) (init ! 33 refl (array-lawful 𝓤 H A W usize (uint-lawful 𝓤 H A W w64) 256 .typed (m .firsts) _ gf .0)) $
           assigns ! (addr ! (from ! (fld ! refl (hop ! (look-in ! 39 (sub ! 0 refl (whole !))) (stop !))))) (from ! (stop !)) (init ! 21 refl (tt, tt)) $
@@ -331,7 +332,7 @@ module _ {M : Type 1} (𝓤 : URA M) (H : Heap 𝓤) (A : Atoms 𝓤) (W : Given
           move ! (3 ∷ 9 ∷ []) $ join ! $ move ! (4 ∷ 2 ∷ []) $ join ! $
           forget ! 15 refl $ forget ! 17 refl $ forget ! 19 refl $ forget ! 21 refl $ forget ! 23 refl $ forget ! 25 refl $ forget ! 27 refl $ forget ! 29 refl $ forget ! 41 refl $ forget ! 43 refl $ forget ! 45 refl $
           keep ! (1 ∷ 0 ∷ 7 ∷ 8 ∷ 5 ∷ 9 ∷ 10 ∷ 11 ∷ 12 ∷ 13 ∷ 14 ∷ 15 ∷ 16 ∷ 17 ∷ 18 ∷ 19 ∷ 20 ∷ 21 ∷ 22 ∷ 23 ∷ 24 ∷ 25 ∷ 26 ∷ 27 ∷ 28 ∷ 29 ∷ 30 ∷ 31 ∷ 32 ∷ 33 ∷ 34 ∷ 35 ∷ 36 ∷ 2 ∷ 37 ∷ 3 ∷ 38 ∷ 39 ∷ 40 ∷ 41 ∷ 42 ∷ 43 ∷ 44 ∷ 45 ∷ 46 ∷ 47 ∷ 48 ∷ []) $
-          ends (ws .0) lw (subst (λ (l : List Entry). Built (xi .now) (xc .now) (numbersOf ys) (m .answer) zs (numbersOf l)) (sym e) (fit .built)))))))))))))
+          ends (ws .0) lw (subst (λ (l : List Entry). Built rules (xi .now) (xc .now) (numbersOf ys) (m .answer) zs (numbersOf l)) (sym e) (fit .built)))))))))))))
           -- refused: `clear`
           (λ some-number.
           assigns ! (addr ! (from ! (fld ! refl (hop ! (look-in ! 39 (sub ! 0 refl (whole !))) (stop !))))) (from ! (stop !)) (init ! 7 refl (tt, tt)) $
@@ -346,14 +347,14 @@ module _ {M : Type 1} (𝓤 : URA M) (H : Heap 𝓤) (A : Atoms 𝓤) (W : Given
           land-last ! (from ! (stop !)) (init ! 11 refl (nothing-lawful 𝓤 H A W .typed u _ is .0)) $ exec ! C Λ En piece.t-7 (atRet En Post) $
           forget ! 7 refl $ forget ! 9 refl $ forget ! 11 refl $ forget ! 27 refl $ forget ! 41 refl $ forget ! 43 refl $ forget ! 45 refl $
           keep ! (4 ∷ 1 ∷ 6 ∷ 5 ∷ 2 ∷ 7 ∷ 8 ∷ 9 ∷ 10 ∷ 11 ∷ 12 ∷ 13 ∷ 14 ∷ 15 ∷ 16 ∷ 17 ∷ 18 ∷ 19 ∷ 20 ∷ 21 ∷ 22 ∷ 23 ∷ 24 ∷ 25 ∷ 26 ∷ 27 ∷ 28 ∷ 29 ∷ 30 ∷ 31 ∷ 32 ∷ 33 ∷ 34 ∷ 35 ∷ 36 ∷ 37 ∷ 38 ∷ 39 ∷ 40 ∷ 41 ∷ 42 ∷ 43 ∷ 44 ∷ 45 ∷ 46 ∷ 47 ∷ 48 ∷ []) $
-          ends (ws .0) lw (subst (λ (l : List Entry). Built (xi .now) (xc .now) (numbersOf ys) (m .answer) zs (numbersOf l)) (sym e) (refused-one (xi .now) (xc .now) ys (m .answer) zs (m .firsts) (m .tables) left (numbered some-number))))))))))
+          ends (ws .0) lw (subst (λ (l : List Entry). Built rules (xi .now) (xc .now) (numbersOf ys) (m .answer) zs (numbersOf l)) (sym e) (refused-one rules (xi .now) (xc .now) ys (m .answer) zs (m .firsts) (m .tables) left (numbered some-number))))))))))
         where
           numbered : Holds (not (eqb (m .answer .refusal) 0)) → m .answer .refusal ≡ 0 → ⊥
           numbered h e = T-not (eqb (m .answer .refusal) 0) h (subst (λ (k : ℕ). Holds (eqb k 0)) (sym e) tt)
 
   -- what `work` says
   abbrev Said : Made → List ℕ → Type 0
-  Said r zs = Left (xi .now) (xc .now) ys (r .answer) zs (r .firsts) (r .tables) × (Tabled (xi .now) (r .tables) → r .n ≡ length (functionsIn (xi .now)))
+  Said r zs = Left rules (xi .now) (xc .now) ys (r .answer) zs (r .firsts) (r .tables) × (Tabled (xi .now) (r .tables) → r .n ≡ length (functionsIn (xi .now)))
 
   owner : (w : Val) (r : Made) → Is P.the-row r (w ∷ []) → Is P.the-row r (P′.lowered r ∷ [])
   owner w r is = subst (λ (vs : List Val). Is P.the-row r vs) (P′.lowers .val-is r _ is) is
