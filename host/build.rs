@@ -6,6 +6,9 @@ use std::{env, fs};
 fn main() {
     println!("cargo::rerun-if-changed=build.rs");
     println!("cargo::rerun-if-env-changed=HASPNETTLE_LIB");
+    if env::var("CARGO_CFG_TARGET_ARCH").as_deref() != Ok("x86_64") {
+        fail("the proved library is x86-64 code: build with --target x86_64-unknown-linux-gnu");
+    }
     let here = PathBuf::from(env::var_os("CARGO_MANIFEST_DIR").unwrap());
     let root = here.parent().unwrap_or_else(|| fail("the crate's folder has none above it"));
     let library = match env::var_os("HASPNETTLE_LIB") {

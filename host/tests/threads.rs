@@ -37,7 +37,7 @@ fn wide_literals() -> Contract {
     Contract { structs: vec![Struct { name: "W".into(), fields: (0..64).map(field).collect() }], ..contract(vec![main]) }
 }
 
-// The deepest tree, and the longest function: many windows.
+// The deepest tree, and the longest function.
 fn heavy() -> Vec<Contract> {
     let deep = (0..56).fold(Expr::Int(1), |e, _| Expr::MappingRead("m".into(), Box::new(e)));
     let nested = (0..28).fold(vec![Stmt::Constrain(Expr::Int(1))], |b, _| vec![Stmt::If(Expr::Int(1), b, Some(vec![]))]);
@@ -99,17 +99,17 @@ fn many_threads() {
 }
 
 #[test]
-fn a_stack_of_128_kib() {
+fn a_stack_of_96_kib() {
     let images: Vec<Vec<u8>> =
         samples().iter().map(|n| sample(&format!("{n}.img"))).chain(heavy().iter().map(|c| image(c).unwrap())).collect();
     let run = move || images.iter().map(|i| guarded(i, 8 * 65_536).0.unwrap_or_else(|r| r.number as usize)).sum::<usize>();
     let roomy = run.clone()();
-    let small = thread::Builder::new().stack_size(128 << 10).spawn(run).unwrap().join().unwrap();
+    let small = thread::Builder::new().stack_size(96 << 10).spawn(run).unwrap().join().unwrap();
     assert_eq!(small, roomy);
 }
 
 #[test]
-fn a_function_of_many_windows() {
+fn a_long_function() {
     let words = build(&heavy()[2]).unwrap();
     assert!(words.len() > 2 * 4096, "{} words", words.len());
     let (answer, bytes) = guarded(&image(&heavy()[2]).unwrap(), 8 * words.len() + 5);

@@ -1,21 +1,21 @@
 -- The loop of `link`: after i turns the first i numbers are linked, and the rest is as it was.
 --     Linking      that
---     long, here, more      the slice's length, the number that is next, one turn
+--     long, here, more, stay      the slice's length, the number that is next, one turn, a turn at a word
 -- Assumes nothing.
 use mathlib.Core.Path.{_≡_, refl, sym, ap, _∙_}
 use mathlib.Core.Bool.{Bool, true, false}
 use mathlib.Core.List.{List, [], _∷_, _++_}
-use Prim.Native.Nat.{ℕ, suc, _+_, _≤_, _<_, min}
+use Prim.Native.Nat.{ℕ, suc, _+_, _^_, _≤_, _<_, min}
 use native.Mathlib.Nat.{add-zero, zero-add, add-suc, suc-add}
 use native.Mathlib.Numerals.{add-one}
 use native.Mathlib.Omega.{arith}
 use lib.ListN.{length, getD, set, take}
-use lib.Seq.{take-all, take-suc, length-take-le}
+use lib.Seq.{take-all, take-suc, length-take-le, set-getD}
 use lib.Dec.{leb}
 use borrow.Author.Tests.{leb-true, leb-false}
 use Rattle.rules.specs.Lent.{over}
 use Rattle.lent.specs.Over.{length-over, over-more, getD-over-past}
-use Rattle.link.specs.Linked.{linked, linkedFrom, length-linked, linked-more}
+use Rattle.link.specs.Linked.{linked, kept-word, linkedFrom, length-linked, linked-more}
 
 pub record Linking (F c₀ : List ℕ) (end : ℕ) (c : List ℕ) (i : ℕ) : Type 0 where
   pub within : i ≤ end
@@ -43,6 +43,9 @@ module _ {F c₀ : List ℕ} {end : ℕ} {c : List ℕ} {i : ℕ} (v : Linking F
       ∙ ap (λ (n : ℕ). over (linkedFrom F 0 (take i c₀) ++ linked F n (getD c₀ i 0) ∷ []) c₀) (sym (zero-add (length (take i c₀)) ∙ l))
       ∙ ap (λ (r : List ℕ). over r c₀) (sym (linked-more F 0 (take i c₀) (getD c₀ i 0)))
       ∙ ap (λ (r : List ℕ). over (linkedFrom F 0 r) c₀) (sym (take-suc c₀ i 0 k) ∙ ap (λ (n : ℕ). take n c₀) (sym (add-one i)))
+
+  pub stay : getD c i 0 < 2 ^ 63 → i < end → c ≡ over (linkedFrom F 0 (take (i + 1) c₀)) c₀
+  stay g h = sym (set-getD c i 0) ∙ more (getD c i 0) (sym (kept-word F i (getD c i 0) g)) h
 
 -- All that there are of the first n.
 pub taken : (c : List ℕ) (n i : ℕ) → i ≡ min n (length c) → take i c ≡ take n c

@@ -1,12 +1,13 @@
 -- The numbers that stand in the slice once every function is placed (000: generate, the loop over unpatched_calls).
---     linked       one of them; linkedFrom: from index i on: length-linked, linked-more
+--     linked       one of them (kept-word: a word stays); linkedFrom: from index i on: length-linked, linked-more
 -- Assumes nothing.
 use mathlib.Core.Path.{_≡_, refl, sym, ap, _∙_}
 use mathlib.Core.List.{List, [], _∷_, _++_}
-use Prim.Native.Nat.{ℕ, suc, _+_, _-_, _%_, _^_}
+use Prim.Native.Nat.{ℕ, suc, _+_, _-_, _%_, _^_, _<_}
 use native.Mathlib.Nat.{add-zero, add-suc, suc-add}
 use lib.Dec.{leb, ltb}
 use lib.ListN.{length, getD}
+use borrow.Author.Tests.{lt-leb}
 use Rattle.isa.specs.declared.Opcode.the-variants as op
 use Rattle.isa.specs.Signed.{offsetOf}
 use Rattle.rules.specs.Bytes.{pick}
@@ -19,6 +20,10 @@ distanceTo F i k = pick (ltb k (length F)) (offsetOf (getD F k 0 % 2 ^ 32) (i % 
 -- A word is kept; what has the top bit is an open call.
 unfoldable pub linked : (firsts : List ℕ) (own w : ℕ) → ℕ
 linked F i w = pick (leb (2 ^ 63) w) (wordOf op.Call 0 0 0 (distanceTo F i (w - 2 ^ 63))) w
+
+pub kept-word : (F : List ℕ) (i w : ℕ) → w < 2 ^ 63 → linked F i w ≡ w
+unfolding linked pick
+kept-word F i w h = rw (lt-leb _ _ h) refl
 
 -- Those from an index on.
 unfoldable pub linkedFrom : (firsts : List ℕ) (own : ℕ) → List ℕ → List ℕ

@@ -11,7 +11,7 @@ use native.Mathlib.Nat.{add-suc, suc-add}
 use native.Mathlib.Omega.{arith}
 use lib.Dec.{leb, ltb}
 use lib.ListN.{length, getD}
-use borrow.Author.Tests.{leb-true, leb-false, le-leb, lt-leb, lt-ltb, le-ltb}
+use borrow.Author.Tests.{leb-true, leb-false, le-leb, lt-ltb, le-ltb}
 use Rattle.isa.specs.declared.Encoded.{Encoded}
 use Rattle.isa.specs.declared.Encoded.the-variants as encoded
 use Rattle.isa.specs.declared.Instruction.{Instruction}
@@ -27,7 +27,7 @@ use Rattle.rules.specs.Machine.{Imm, Word, Entry, bitsOf}
 use Rattle.rules.specs.Emit.{Open, word, calls}
 use Rattle.rules.specs.Link.{less, distance, patch, link}
 use Rattle.emit.specs.Ran.{orZero, wordOf, orFirst, callOf, raw}
-use Rattle.link.specs.Linked.{distanceTo, linked, linkedFrom}
+use Rattle.link.specs.Linked.{distanceTo, linked, kept-word, linkedFrom}
 
 -- The number of a word, its fields cut to what an Instruction holds.
 abbrev pub cut : Word → ℕ
@@ -102,10 +102,6 @@ below o d a b i =
     let n : Instruction = record { opcode = o; rd = d % 256; rs1 = a % 256; rs2 = b % 256; imm = i % 2 ^ 32 } in
     let h = zero-below (isa.encodeOf n) (λ w e. word-below n w (omega arith) e) in
     omega (arith, h)
-
-kept-word : (F : List ℕ) (i w : ℕ) → w < 2 ^ 63 → linked F i w ≡ w
-unfolding linked pick
-kept-word F i w h = rw (lt-leb _ _ h) refl
 
 linked-call : (F : List ℕ) (i k : ℕ) → k ≤ 256 → linked F i (callOf k) ≡ wordOf op.Call 0 0 0 (distanceTo F i k)
 unfolding linked callOf pick

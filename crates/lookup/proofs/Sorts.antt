@@ -1,8 +1,8 @@
 -- Types, by tag and name.
 use mathlib.Core.Bool.{Bool, true, false}
 use mathlib.Core.List.{List, []}
-use mathlib.Core.Path.{_≡_}
-use Prim.Native.Nat.{ℕ, _-_, _≤_}
+use mathlib.Core.Path.{_≡_, refl}
+use Prim.Native.Nat.{ℕ, _-_, _≤_, _<_}
 use native.Mathlib.Omega.{arith}
 use borrow.Author.Tests.{eq-eqb, ne-eqb}
 use lib.ListN.{length, drop-of-length-le}
@@ -20,7 +20,21 @@ pub name-end : (img : List ℕ) → nameAt img (length img) ≡ []
 unfolding nameAt
 name-end img = rw (drop-of-length-le img (inside-end img)) (take-nil (after img (length img) - inside img (length img)))
 
+-- a type without a name, by its tag
+nameless : (A : Typ) → tagOf A < 5 → nameOf A ≡ []
+unfolding tagOf nameOf
+nameless Typ.u64 h = refl
+nameless Typ.bool h = refl
+nameless Typ.field h = refl
+nameless Typ.void h = refl
+nameless Typ.unknown h = refl
+nameless (Typ.struct x) h = absurd (omega arith)
+
 module _ (A B : Typ) where
+  pub low-tags : {x y : ℕ} → x ≡ tagOf A → y ≡ tagOf B → x ≡ y → x < 5 → true ≡ eqTyp A B
+  unfolding eqTyp eqName
+  low-tags p q e h = rw (nameless A (omega arith), nameless B (omega arith), ← p, ← q, eq-eqb _ _ e)
+
   pub same-tags : {x y : ℕ} {n m : Name} → x ≡ tagOf A → y ≡ tagOf B → x ≡ y → n ≡ nameOf A → m ≡ nameOf B → eqName n m ≡ eqTyp A B
   unfolding eqTyp
   same-tags p q e h k = rw (← p, ← q, ← h, ← k, eq-eqb _ _ e)

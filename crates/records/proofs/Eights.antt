@@ -1,4 +1,5 @@
 -- Bytes compared four and eight at a time.
+--     by-cases        the two cases of a place
 --     more, more8     a loop's next step: one byte, eight bytes
 --     whole, ends     all bytes were compared: eight at a time and the last eight; the first four and the last four
 -- Assumes nothing.
@@ -14,8 +15,7 @@ use Rattle.rules.specs.Bytes.{eqName, le16, le32, le64}
 use Rattle.records.specs.Names.{agree}
 use Rattle.records.specs.Small.{Bytes, half-bytes, half-small, word-small}
 
--- the two cases of a place
-by-cases : (P : Type 0) (a b : ℕ) → (a ≤ b → P) → (b < a → P) → P
+pub by-cases : (P : Type 0) (a b : ℕ) → (a ≤ b → P) → (b < a → P) → P
 by-cases P a b f g = go (leb a b) refl
   where
     go : (t : Bool) → leb a b ≡ t → P

@@ -1,6 +1,6 @@
 // Readings of an image's records, all total: past the image's end a byte is 0, a place is the end, a name is empty.
 ghost use mathlib.Core.Path.{_≡_};
-ghost use Prim.Native.Nat.{_+_, _≤_, _<_};
+ghost use Prim.Native.Nat.{_+_, _≤_, _<_, min};
 ghost use lib.ListN.{length};
 ghost use Rattle.rules.specs.Bytes.{byteAt, le32, le64, kindAt, inside, after, intAt, opAt, nameAt, eqName};
 ghost use Rattle.rules.specs.Read.{placesFrom};
@@ -36,59 +36,85 @@ fn eight_in(img: &[u8], i: usize) -> u64
     word_in(img, i) + 4294967296 * word_in(img, i + 4)
 }
 
+// The lesser of two.
+fn least(a: usize, b: usize) -> usize
+    ensures { λ r. ⌜ r ≡ min a b ⌝ }
+{
+    if a < b { a } else { b }
+}
+
+// The four bytes from i on where fewer are left: names are often as short.
+fn few(img: &[u8], i: usize) -> u64
+    requires { ⌜ (i ≤ length (now img)) × (length (now img) < i + 4) ⌝ }
+    ensures { λ r. ⌜ (r ≡ le32 (now (img .entry)) i) × (r < 4294967296) ⌝ }
+{
+    let n = img.len() - i;
+    if n == 0 {
+        return 0;
+    }
+    let a = wide(img[i]);
+    if n == 1 {
+        return a;
+    }
+    let b = a + 256 * wide(img[i + 1]);
+    if n == 2 {
+        return b;
+    }
+    b + 65536 * wide(img[i + 2])
+}
+
 // The four bytes from i on, the lowest first.
 pub fn word32(img: &[u8], i: usize) -> u64
     ensures { λ r. ⌜ (r ≡ le32 (now (img .entry)) i) × (r < 4294967296) ⌝ }
 {
-    if img.len() <= i {
-        return 0;
+    let n = img.len();
+    let j = least(i, n);
+    if n - j < 4 {
+        return few(img, j);
     }
-    if 4 <= img.len() - i {
-        return word_in(img, i);
-    }
-    let a = byte(img, i);
-    let b = byte(img, i + 1);
-    let c = byte(img, i + 2);
-    let d = byte(img, i + 3);
-    a + 256 * b + 65536 * c + 16777216 * d
+    word_in(img, j)
+}
+
+// The kind of a record that the image's end may cut.
+fn kind_cut(img: &[u8], i: usize) -> u64
+    requires { ⌜ i ≤ length (now img) ⌝ }
+    ensures { λ r. ⌜ (r ≡ kindAt (now (img .entry)) i) × (r < 65536) ⌝ }
+{
+    let a = byte(img, i + 4);
+    let b = byte(img, i + 5);
+    a + 256 * b
 }
 
 // The kind of the record at i (01: a record's bytes 4 and 5).
 pub fn kind(img: &[u8], i: usize) -> u64
     ensures { λ r. ⌜ (r ≡ kindAt (now (img .entry)) i) × (r < 65536) ⌝ }
 {
-    if img.len() <= i {
-        return 0;
+    let n = img.len();
+    let j = least(i, n);
+    if n - j < 6 {
+        return kind_cut(img, j);
     }
-    if 6 <= img.len() - i {
-        return wide(img[i + 4]) + 256 * wide(img[i + 5]);
-    }
-    let a = byte(img, i + 4);
-    let b = byte(img, i + 5);
-    a + 256 * b
+    wide(img[j + 4]) + 256 * wide(img[j + 5])
 }
 
 // Where the payload of the record at i starts.
 pub fn body(img: &[u8], i: usize) -> usize
     ensures { λ r. ⌜ (r ≡ inside (now (img .entry)) i) × (r ≤ length (now (img .entry))) ⌝ }
 {
-    if img.len() <= i {
-        return img.len();
-    }
-    let e = i + 6;
-    if e < img.len() { e } else { img.len() }
+    let n = img.len();
+    least(least(i, n) + 6, n)
 }
 
-// The place past the record at i.
+// The place past the record at i: the end where not even its length is there.
 pub fn past(img: &[u8], i: usize) -> usize
     ensures { λ r. ⌜ (r ≡ after (now (img .entry)) i) × (r ≤ length (now (img .entry))) ⌝ }
 {
-    if img.len() <= i {
-        return img.len();
+    let n = img.len();
+    let j = least(i, n);
+    if n - j < 4 {
+        return n;
     }
-    let n = word32(img, i) as usize;
-    let e = i + 4 + n;
-    if e < img.len() { e } else { img.len() }
+    least(j + 4 + word_in(img, j) as usize, n)
 }
 
 // The number of the Int at i.
@@ -96,9 +122,10 @@ pub fn int(img: &[u8], i: usize) -> u64
     ensures { λ r. ⌜ r ≡ intAt (now (img .entry)) i ⌝ }
 {
     let p = body(img, i);
-    let low = word32(img, p);
-    let high = word32(img, p + 4);
-    low + 4294967296 * high
+    if img.len() - p < 8 {
+        return word32(img, p) + 4294967296 * word32(img, p + 4);
+    }
+    eight_in(img, p)
 }
 
 // The byte of the Op or Flag at i.
@@ -202,8 +229,8 @@ pub fn key(x: &[u8]) -> usize
 {
     let n = x.len();
     if n < 4 {
-        let few = word32(x, 0) as usize;
-        return few + 4294967296 * few;
+        let all = few(x, 0) as usize;
+        return all + 4294967296 * all;
     }
     word_in(x, 0) as usize + 4294967296 * (word_in(x, n - 4) as usize)
 }

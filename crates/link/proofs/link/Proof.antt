@@ -1,22 +1,16 @@
 -- `link::link` meets its contract, by the laws of Turns.
 -- Assumes nothing.
-use lib.ListN.{length-set}
-use mathlib.Core.Path.{_≡_, refl, sym, ap, _∙_}
+use mathlib.Core.Path.{refl, ap, _∙_}
 use mathlib.Core.List.{List}
-use Prim.Native.Nat.{ℕ, _-_, _≤_, _<_, min}
+use mathlib.Core.Logic.{⊎-elim}
+use Prim.Native.Nat.{ℕ, _-_}
 use native.Mathlib.Omega.{arith}
-use lib.ListN.{length, take}
-use lib.Seq.{take-all}
 use Rattle.rules.specs.Lent.{over}
 use Rattle.link.specs.Linked.{linkedFrom}
-use Rattle.link.proofs.Turns.{Linking, long, more, taken}
+use Rattle.link.proofs.Turns.{Linking, long, more, stay, taken}
 use borrow.Author.Needs.{needs}
 use Rattle.link.proofs.link.Statement.{statement}
 use Rattle.link.proofs.link.Tie as tie
-use Rattle.link.proofs.link.Reads as reads
-use Rattle.link.proofs.link.Lts as lts
-use Rattle.emit.proofs.least.Reads as least-reads
-use Rattle.link.proofs.linked_word.Reads as linked-word-reads
 
 abbrev Inv-loop : tie.InvT-loop
 Inv-loop code₀ firsts n end i₀ code i = Linking firsts code₀ end code i
@@ -24,52 +18,47 @@ Inv-loop code₀ firsts n end i₀ code i = Linking firsts code₀ end code i
 abbrev μ-loop : tie.MeasureT-loop
 μ-loop code₀ firsts n end i₀ code i = end - i
 
--- src/lib.rt:53:9
 least-requires : tie.Need-least-requires Inv-loop μ-loop
 least-requires c κs = search needs
 
--- src/lib.rt:55:5
 loop-holds : tie.Need-loop-holds Inv-loop μ-loop
 unfolding linkedFrom
 loop-holds c = record { within = omega arith; room = omega (arith, c .least .ensures); same = refl }
 
--- src/lib.rt:56:17
 mul-w : tie.Need-mul-w Inv-loop μ-loop
 mul-w c = search needs
 
--- src/lib.rt:56:17
 slice-read-w : tie.Need-slice-read-w Inv-loop μ-loop
-slice-read-w c = omega (arith, long (c .before .before .loop .inv), c .before .before .loop .inv .room, c .before .before .loop .inv .within, c .before .loop-test .taken)
+slice-read-w c = omega (arith, long (c .before .before .loop .inv), c .before .before .loop .inv .room, c .before .loop-test .taken)
 
--- src/lib.rt:57:19
 linked-word-requires : tie.Need-linked-word-requires Inv-loop μ-loop
 linked-word-requires c κs = search needs
 
--- src/lib.rt:57:9
 mul-code : tie.Need-mul-code Inv-loop μ-loop
 mul-code c = search needs
 
--- src/lib.rt:57:9
 slice-write-code : tie.Need-slice-write-code Inv-loop μ-loop
-slice-write-code c = omega (arith, long (c .before .before .before .loop .inv), c .before .before .before .loop .inv .room, c .before .before .before .loop .inv .within, c .before .before .loop-test .taken)
+slice-write-code c = omega (arith, long (c .before .before .before .before .loop .inv), c .before .before .before .before .loop .inv .room, c .before .before .before .loop-test .taken)
 
--- src/lib.rt:58:9
 add-i : tie.Need-add-i Inv-loop μ-loop
 add-i c = search needs
 
--- src/lib.rt:55:5
 loop-less : tie.Need-loop-less Inv-loop μ-loop
 loop-less c = search needs
 
--- src/lib.rt:55:5
 loop-again : tie.Need-loop-again Inv-loop μ-loop
-loop-again c = record { within = omega (arith, c .before .before .loop-test .taken); room = c .before .before .before .loop .inv .room; same = more (c .before .before .before .loop .inv) _ (c .linked-word .ensures) (c .before .before .loop-test .taken) }
+loop-again c = record {
+  within = omega (arith, c .before .before .loop-test .taken);
+  room = c .before .before .before .loop .inv .room;
+  same = ⊎-elim
+      (λ w. w .2 ∙ more (c .before .before .before .loop .inv) _ (w .1 .ensures) (c .before .before .loop-test .taken))
+      (λ w. w .1 ∙ stay (c .before .before .before .loop .inv) (w .0 .left) (c .before .before .loop-test .taken))
+      (c .if1 .came);
+}
 
--- src/lib.rt:50:1
 same-length : tie.Need-same-length Inv-loop μ-loop
 same-length c = long (c .before .loop .inv)
 
--- src/lib.rt:50:1
 returns : tie.Need-returns Inv-loop μ-loop
 returns c = c .before .loop .inv .same ∙ ap (λ (l : List ℕ). over (linkedFrom (c .before .before .before .before .before .args .firsts .now) 0 l) (c .before .before .before .before .before .args .code .now)) (taken (c .before .before .before .before .before .args .code .now) (c .before .before .before .before .before .args .n) (c .before .loop .i) (omega (arith, c .before .loop .inv .within, c .loop-test .left, c .before .before .least .ensures)))
 

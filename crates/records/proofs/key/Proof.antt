@@ -9,8 +9,8 @@ use Rattle.records.specs.Keys.{keyOf}
 use Rattle.records.proofs.key.Statement.{statement}
 use Rattle.records.proofs.key.Tie as tie
 
-word32-requires : tie.Need-word32-requires
-word32-requires c κs = search needs
+few-requires : tie.Need-few-requires
+few-requires c κs = search needs
 
 mul-result : tie.Need-mul-result
 mul-result c = search needs
@@ -20,7 +20,7 @@ add-result c = search needs
 
 returns : tie.Need-returns
 unfolding keyOf
-returns c = let z : length (c .before .before .before .args .x .now) - 4 ≡ 0 = omega arith in rw (z, c .word32 .ensures .0)
+returns c = let z : length (c .before .before .before .args .x .now) - 4 ≡ 0 = omega arith in rw (z, c .few .ensures .0)
 
 word-in-requires : tie.Need-word-in-requires
 word-in-requires c κs = search needs
@@ -42,7 +42,7 @@ pub key-spec : {M : Type 1} → statement M
 key-spec =
     tie.close
     (tie.spec
-    word32-requires
+    few-requires
     mul-result
     add-result
     returns
