@@ -1,4 +1,5 @@
 -- The table of keys and positions.
+--     one-more     the cells set to 0
 --     starts, passes-by, free-slot, own-slot     the way to a key's slot
 --     put-there, was-there     a position noted
 --     begin-fields, one-field, end-fields, end-count     the Fields of a struct
@@ -39,6 +40,13 @@ ext-trans a b = record {
   keys = λ h f. b .keys h (λ z. f (sym (a .values h f) ∙ z)) ∙ a .keys h f;
   values = λ h f. b .values h (λ z. f (sym (a .values h f) ∙ z)) ∙ a .values h f;
 }
+
+pub one-more : (t : List ℕ) (i : ℕ) → i < length t → ((j : ℕ) → j < i → getD t j 0 ≡ 0) → (j : ℕ) → j < i + 1 → getD (set t i 0) j 0 ≡ 0
+one-more t i room all j b = here (eqb j i) refl
+  where
+    here : (c : Bool) → eqb j i ≡ c → getD (set t i 0) j 0 ≡ 0
+    here true q = rw (eqb-true j i q) (getD-set-same t i 0 0 room)
+    here false q = getD-set-other t i j 0 0 (eqb-false j i q) ∙ all j (omega (arith, eqb-false j i q))
 
 module _ (t : List ℕ) (key : ℕ) where
   look-hit : (k h : ℕ) → (k ≡ 0 → ⊥) → (getD t (2 * h + 1) 0 ≡ 0 → ⊥) → getD t (2 * h) 0 ≡ key → look t key k h ≡ getD t (2 * h + 1) 0

@@ -5,7 +5,7 @@
 ghost use mathlib.Core.Bool.{true, false};
 ghost use mathlib.Core.Path.{_≡_};
 ghost use Prim.Native.Nat.{ℕ, _<_, _≤_};
-ghost use lib.ListN.{length};
+ghost use lib.ListN.{length, getD};
 ghost use Rattle.rules.specs.Bytes.{Name};
 ghost use Rattle.rules.specs.Read.{contractAt};
 ghost use Rattle.rules.specs.Ambiguous.{isAmbiguous};
@@ -75,17 +75,29 @@ fn note_fields(seen: &mut [usize], img: &[u8], l: usize) -> bool
     true
 }
 
-// No field has two positions.
-pub fn all_agree(img: &[u8], tables: &[usize]) -> bool
+// Every slot is free.
+fn forget(seen: &mut [usize])
+    requires { ⌜ 1018 ≤ length (now seen) ⌝ }
+    ensures { λ _. ⌜ ((j : ℕ) → j < 1018 → getD (now (seen .exit)) j 0 ≡ 0) ⌝ }
+{
+    let mut i: usize = 0;
+    while i < 1018 {
+        seen[i] = 0;
+        i += 1;
+    }
+}
+
+// No field has two positions. The table stands in what is lent, and is left there.
+pub fn all_agree(seen: &mut [usize; 2048], img: &[u8], tables: &[usize]) -> bool
     requires { ⌜ Tabled (now img) (now tables) ⌝ }
     ensures { λ r. ⌜ (r ≡ true → (x : Name) → isAmbiguous (contractAt (now (img .entry))) x ≡ false) ⌝ }
 {
-    let mut seen = [0usize; 1018];
+    forget(seen);
     let n = tables::struct_count(tables);
     let mut i = 0;
     while i < n {
         let fields = crate::second(img, tables::struct_place(tables, i));
-        if note_fields(&mut seen, img, fields) {
+        if note_fields(seen, img, fields) {
             i += 1;
         } else {
             return false;

@@ -261,15 +261,15 @@ fn in_functions(img: &[u8], tables: &[usize]) -> Spot
     Spot::Nowhere
 }
 
-// 01: row 30, place. Where no field has two positions the tree is not walked.
-pub fn first_ambiguous(img: &[u8], tables: &[usize]) -> Spot
+// 01: row 30, place. Where no field has two positions the tree is not walked. What is lent serves as a table, whatever it held.
+pub fn first_ambiguous(seen: &mut [usize; 2048], img: &[u8], tables: &[usize]) -> Spot
     requires { ⌜ Tabled (now img) (now tables) ⌝ }
     ensures { λ r. ⌜ spotOf r ≡ firstAmbiguous (contractAt (now (img .entry))) ⌝ }
 {
     if tables::struct_count(tables) < 2 {
         return Spot::Nowhere;
     }
-    if agree::all_agree(img, tables) {
+    if agree::all_agree(seen, img, tables) {
         return Spot::Nowhere;
     }
     in_functions(img, tables)

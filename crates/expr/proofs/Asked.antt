@@ -4,7 +4,7 @@ use mathlib.Core.Path.{_≡_, refl, sym, ap, _∙_, subst}
 use mathlib.Core.Bool.{true, false}
 use mathlib.Core.List.{List, [], _∷_}
 use mathlib.Core.Option.{Option, none, some}
-use Prim.Native.Nat.{ℕ}
+use Prim.Native.Nat.{ℕ, _%_}
 use Rattle.rules.specs.Bytes.{pick, Name, eqName, le16, le32, nameAt}
 use Rattle.rules.specs.Read.{contractAt}
 use Rattle.rules.specs.Refusal.{Refusal, ok, known, numberOf, placeOf}
@@ -34,7 +34,7 @@ module _ (img s : List ℕ) (x number place : ℕ) (st r : St) (l : Local) where
   pub finds : (k : ℕ) → regOf l ≡ find (nameAt img x) (scopeIn img s) → l ≡ local.Reg k → r ≡ moved st k (st .next) → Finds img s x number place st r
   unfolding regOf known
   finds k e f g = record {
-    ran = λ C c q a b z. answered (raw C) _ (ap (known q) (sym e ∙ ap regOf f) ∙ ap ok (sym (ap (λ (t : St). t .reg) g))) (ap tally g);
+    ran = λ C c q a b z. answered (raw C) _ (ap (known q) (sym e ∙ ap regOf f) ∙ ap ok (sym (ap (λ (t : St). t .reg % 256) g))) (ap tally g);
     next = ap (λ (t : St). t .next) g;
   }
 

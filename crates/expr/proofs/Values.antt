@@ -1,14 +1,13 @@
 -- Lists of values and of words, an element at a time.
---     regs-none, regs-next, regs-more, reg-there, reg-past     registers of an array
+--     regs-none, regs-next, regs-more, byte-there, reg-past     registers of an array
 --     regs-append, reg-of, argued-is, stored-is     registers of values
 --     arg-last, arg-before     one more value behind others
---     push-none, push-first     the registers from i + 1 up to k
---     pop-none, pop-first     the registers from k - i down to 1
+--     pop-first     the registers from m + 1 down to 1
 --     parts-first, parts-later, shift-none, shift-some, shift-more     the chunks of a number
 -- Assumes nothing.
 use mathlib.Core.Path.{_≡_, refl, sym, ap, _∙_}
 use mathlib.Core.List.{List, [], _∷_, _++_, map, reverse, reverseAux}
-use Prim.Native.Nat.{ℕ, zero, suc, _+_, _-_, _*_, _≤_, _<_}
+use Prim.Native.Nat.{ℕ, zero, suc, _+_, _-_, _*_, _%_, _≤_, _<_}
 use native.Mathlib.Nat.{zero-add, add-zero, le-of-suc-le-suc, not-suc-le-zero}
 use native.Mathlib.Omega.{arith}
 use lib.ListN.{length, getD, set, List·getD-eq-default}
@@ -23,7 +22,7 @@ use Rattle.rules.specs.Emit.{Open, emit, push, pop, load, add, opcode, count, p
 use Rattle.emit.specs.Steps.{at}
 use Rattle.emit.specs.declared.St.{St}
 use Rattle.expr.specs.declared.steps.Several.{Several}
-use Rattle.expr.specs.Values.{regsIn, regsOf, more, pushed, popped, argued, stored}
+use Rattle.expr.specs.Values.{regsIn, regsOf, more, popped, argued, stored}
 
 -- registers of an array
 pub regs-none : (a : List ℕ) (i n : ℕ) → n ≤ i → regsIn a i (n - i) ≡ []
@@ -48,8 +47,12 @@ regs-at a i zero j h = absurd (not-suc-le-zero h)
 regs-at a i (suc k) zero h = ap (λ (n : ℕ). getD a n 0) (sym (add-zero i))
 regs-at a i (suc k) (suc j) h = let e : suc i + j ≡ i + suc j = omega arith in regs-at a (suc i) k j (le-of-suc-le-suc h) ∙ ap (λ (n : ℕ). getD a n 0) e
 
-pub reg-there : (a : List ℕ) (k j : ℕ) → j < k → getD a j 0 ≡ getD (regsIn a 0 k) j 0
+reg-there : (a : List ℕ) (k j : ℕ) → j < k → getD a j 0 ≡ getD (regsIn a 0 k) j 0
 reg-there a k j h = sym (regs-at a 0 k j h ∙ ap (λ (n : ℕ). getD a n 0) (zero-add j))
+
+-- it is a byte's
+pub byte-there : (a : List ℕ) (k j r : ℕ) → r ≡ getD a j 0 → r < 256 → j < k → r % 256 ≡ getD (regsIn a 0 k) j 0
+byte-there a k j r e b h = let f : r % 256 ≡ r = omega arith in f ∙ e ∙ reg-there a k j h
 
 pub reg-past : (a : List ℕ) (k j : ℕ) → k ≤ j → 0 ≡ getD (regsIn a 0 k) j 0
 reg-past a k j h = sym (List·getD-eq-default (regsIn a 0 k) _ (rw (length-regs a 0 k) h))
@@ -131,18 +134,6 @@ module _ (v : Several) (s : St) where
   unfolding pick
   more-later a b = simp (ne-eqb _ _ a, ne-eqb _ _ b)
 
--- the registers from i + 1 up to k
-pub push-none : (i k p : ℕ) → k ≤ i → pushed (i + 1) (k - i) p ≡ []
-unfolding count
-push-none i k p h = let e : k - i ≡ 0 = omega arith in ap (λ (n : ℕ). pushed (i + 1) n p) e
-
-pub push-first : (i k p : ℕ) → i < k → pushed (i + 1) (k - i) p ≡ push p (i + 1) ∷ pushed (i + 1 + 1) (k - (i + 1)) p
-unfolding count
-push-first i k p h =
-    let e : k - i ≡ suc (k - (i + 1)) = omega arith in
-    let f : suc (i + 1) ≡ i + 1 + 1 = omega arith in
-    ap (λ (n : ℕ). pushed (i + 1) n p) e ∙ ap (λ (n : ℕ). push p (i + 1) ∷ pushed n (k - (i + 1)) p) f
-
 -- the registers from k down to 1
 count-last : (a k : ℕ) → count a (suc k) ≡ count a k ++ ((a + k) ∷ [])
 unfolding count
@@ -153,17 +144,10 @@ reverse-last : (xs : List ℕ) (y : ℕ) (r : List ℕ) → reverseAux (xs ++ (y
 reverse-last [] y r = refl
 reverse-last (x ∷ xs) y r = reverse-last xs y (x ∷ r)
 
-pub pop-none : (i k p : ℕ) → k ≤ i → popped (k - i) p ≡ []
-unfolding count
-pop-none i k p h = let e : k - i ≡ 0 = omega arith in ap (λ (n : ℕ). popped n p) e
-
-pub pop-first : (i k p : ℕ) → i < k → popped (k - i) p ≡ pop p (k - (i + 1) + 1) ∷ popped (k - (i + 1)) p
-pop-first i k p h =
-    let z : k - i ≡ suc (k - (i + 1)) = omega arith in
-    let e : 1 + (k - (i + 1)) ≡ k - (i + 1) + 1 = omega arith in
-    ap (λ (n : ℕ). popped n p) z
-    ∙ ap (λ (l : List ℕ). map (pop p) (reverse l)) (count-last 1 (k - (i + 1)) ∙ ap (λ (n : ℕ). count 1 (k - (i + 1)) ++ (n ∷ [])) e)
-    ∙ ap (λ (l : List ℕ). map (pop p) l) (reverse-last (count 1 (k - (i + 1))) (k - (i + 1) + 1) [])
+pub pop-first : (m p : ℕ) → popped (suc m) p ≡ pop p (suc m) ∷ popped m p
+pop-first m p =
+    let e : 1 + m ≡ suc m = omega arith in
+    ap (λ (l : List ℕ). map (pop p) (reverse l)) (count-last 1 m ∙ ap (λ (n : ℕ). count 1 m ++ (n ∷ [])) e) ∙ ap (map (pop p)) (reverse-last (count 1 m) (suc m) [])
 
 -- the chunks of a number
 module _ (p r s t : ℕ) where

@@ -2,4 +2,5 @@ pub mod Scope
 pub mod Names
 pub mod Steps
 pub mod Values
+pub mod Runs
 pub mod Made

@@ -3,7 +3,7 @@
 use mathlib.Core.Path.{_≡_}
 use mathlib.Core.List.{List}
 use mathlib.Core.Option.{Option, none, some}
-use Prim.Native.Nat.{ℕ}
+use Prim.Native.Nat.{ℕ, _%_}
 use Rattle.rules.specs.Bytes.{Name}
 use Rattle.rules.specs.Tables.{last-index}
 use Rattle.rules.specs.Tree.{Function}
@@ -16,9 +16,9 @@ use Rattle.expr.specs.declared.names.Local.the-variants as local
 use Rattle.expr.specs.declared.names.Builtin.{Builtin}
 use Rattle.expr.specs.declared.names.Builtin.the-variants as builtin
 
--- A local as the definitions have it.
+-- A local as the definitions have it: of the register the low byte.
 unfoldable pub regOf : Local → Option ℕ
-regOf (local.Reg r) = some r
+regOf (local.Reg r) = some (r % 256)
 regOf local.Missing = none
 
 -- A builtin as the definitions have it.

@@ -5,7 +5,7 @@
 ghost use mathlib.Core.Path.{_≡_};
 ghost use mathlib.Core.Bool.{false};
 ghost use mathlib.Core.List.{List};
-ghost use Prim.Native.Nat.{ℕ, _+_, _*_, _%_, _<_, _≤_, min};
+ghost use Prim.Native.Nat.{ℕ, _+_, _*_, _<_, _≤_, min};
 ghost use lib.ListN.{length, getD};
 ghost use Rattle.rules.specs.Bytes.{nameAt};
 ghost use Rattle.rules.specs.Tree.{Expr};
@@ -18,7 +18,7 @@ ghost use Rattle.expr.specs.Names.{regOf, Unknown, builtinOf, functionIn
 use tables::Found;
 
 pub enum Local {
-    Reg(u8),
+    Reg(u64),
     Missing,
 }
 
@@ -57,7 +57,7 @@ pub fn lookup(img: &[u8], scope: &[usize], x: usize) -> Local
         if cell(scope, 3 * k + 1) == key {
             if records::same_name(img, cell(scope, 3 * k + 2), x) {
                 let r = cell(scope, 3 * k + 3);
-                return Local::Reg((r % 256) as u8);
+                return Local::Reg(r as u64);
             }
         }
     }

@@ -53,12 +53,12 @@ pub fn analysis(
     }
 }
 
-// 01: row 30
-fn ambiguity(image: &[u8], tables: &[usize]) -> Judged
+// 01: row 30. The analysis is over, so that its names serve once more as a table of fields.
+fn ambiguity(names: &mut [usize; 2048], image: &[u8], tables: &[usize]) -> Judged
     requires { ⌜ Tabled (now image) (now tables) ⌝ }
     ensures { λ r. ⌜ r ≡ spotted (firstAmbiguous (contractAt (now (image .entry)))) ⌝ }
 {
-    match ambiguous::first_ambiguous(image, tables) {
+    match ambiguous::first_ambiguous(names, image, tables) {
         Spot::At(place) => Judged::Ambiguous(place),
         Spot::Nowhere => Judged::Fine,
     }
@@ -73,7 +73,7 @@ pub fn judge(tables: &mut [usize; tables::SIZE], names: &mut [usize; 2048], imag
         Judged::Image(_, _) => j,
         Judged::Analysis(_) => j,
         Judged::Ambiguous(_) => j,
-        Judged::Fine => ambiguity(image, tables),
+        Judged::Fine => ambiguity(names, image, tables),
     }
 }
 

@@ -79,18 +79,16 @@ module _ (s : List ℕ) (key p r : ℕ) (names : getD s 0 0 < 512) (size : 1537 
   more-reg : getD more (3 * k + 3) 0 ≡ r
   more-reg = cell (3 * k + 3) (omega arith) ∙ getD-set-same placed (3 * k + 3) r 0 (simp length-set (omega arith))
 
-  one-more : (img : List ℕ) → key ≡ keyOf (nameAt img p) → r < 256 → scopeOf img more (suc k) ≡ with-name (nameAt img p) r (scopeOf img s k)
+  one-more : (img : List ℕ) → key ≡ keyOf (nameAt img p) → scopeOf img more (suc k) ≡ with-name (nameAt img p) (r % 256) (scopeOf img s k)
   unfolding scopeOf pick
-  one-more img e b =
-      let m : r % 256 ≡ r = omega arith in
-      rw (more-key, more-place, more-reg, eq-eqb key (keyOf (nameAt img p)) e, m, from-same img s more k more-kept) refl
+  one-more img e = rw (more-key, more-place, more-reg, eq-eqb key (keyOf (nameAt img p)) e, from-same img s more k more-kept) refl
 
-  pub bound : (img : List ℕ) → key ≡ keyOf (nameAt img p) → r < 256 → Binds img p r s more
-  bound img e b = record {
+  pub bound : (img : List ℕ) → key ≡ keyOf (nameAt img p) → Binds img p r s more
+  bound img e = record {
     scope =
         let n : min (getD more 0 0) 512 ≡ suc k = omega (arith, more-count) in
         let m : min k 512 ≡ k = omega arith in
-        rw (n, m) (one-more img e b);
+        rw (n, m) (one-more img e);
     frame = record { least = omega (arith, more-count); most = omega (arith, more-count); kept = more-kept };
     count = more-count;
     reg = more-reg;

@@ -2,7 +2,7 @@
 -- Assumes nothing.
 use mathlib.Core.Path.{_≡_}
 use mathlib.Core.List.{List}
-use Prim.Native.Nat.{ℕ, _+_, _*_, _≤_, _<_}
+use Prim.Native.Nat.{ℕ, _+_, _*_, _%_, _≤_, _<_}
 use lib.ListN.{length, getD}
 use Rattle.rules.specs.Bytes.{nameAt}
 use Rattle.rules.specs.Emit.{with-name}
@@ -24,7 +24,7 @@ pub record Frame (s s' : List ℕ) (k : ℕ) : Type 0 where
 
 -- bind: one name more
 pub record Binds (img : List ℕ) (x r : ℕ) (s s' : List ℕ) : Type 0 where
-  pub scope : scopeIn img s' ≡ with-name (nameAt img x) r (scopeIn img s)
+  pub scope : scopeIn img s' ≡ with-name (nameAt img x) (r % 256) (scopeIn img s)
   pub frame : Frame s s' 1
   pub count : getD s' 0 0 ≡ getD s 0 0 + 1
   pub reg : getD s' (3 * getD s 0 0 + 3) 0 ≡ r

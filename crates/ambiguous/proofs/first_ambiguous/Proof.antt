@@ -20,7 +20,7 @@ all-agree-requires c κs = search needs
 
 returns-2 : tie.Need-returns-2
 unfolding spotOf
-returns-2 c = no-ambiguous (contractAt (c .before .before .before .before .before .before .args .img .now)) (c .before .all-agree .ensures (c .if2 .taken))
+returns-2 c = no-ambiguous (contractAt (c .before .before .before .before .before .before .before .args .img .now)) (c .before .all-agree .ensures (c .if2 .taken))
 
 in-functions-requires : tie.Need-in-functions-requires
 in-functions-requires c κs = search needs

@@ -37,9 +37,6 @@ mul-scope-4 c = search needs
 slice-write-scope-2 : tie.Need-slice-write-scope-2
 slice-write-scope-2 c = simp length-set (omega (arith, c .before .before .before .before .pre .0, c .before .before .before .before .pre .1))
 
-wide-requires : tie.Need-wide-requires
-wide-requires c κs = search needs
-
 mul-scope-5 : tie.Need-mul-scope-5
 mul-scope-5 c = search needs
 
@@ -50,19 +47,19 @@ mul-scope-6 : tie.Need-mul-scope-6
 mul-scope-6 c = search needs
 
 slice-write-scope-3 : tie.Need-slice-write-scope-3
-slice-write-scope-3 c = simp length-set (omega (arith, c .before .before .before .before .before .pre .0, c .before .before .before .before .before .pre .1))
+slice-write-scope-3 c = simp length-set (omega (arith, c .before .before .before .before .pre .0, c .before .before .before .before .pre .1))
 
 add-scope-4 : tie.Need-add-scope-4
 add-scope-4 c = search needs
 
 slice-write-scope-4 : tie.Need-slice-write-scope-4
-slice-write-scope-4 c = simp length-set (omega (arith, c .before .before .before .before .before .pre .0, c .before .before .before .before .before .pre .1))
+slice-write-scope-4 c = simp length-set (omega (arith, c .before .before .before .before .pre .0, c .before .before .before .before .pre .1))
 
 same-length : tie.Need-same-length
 same-length c = search needs
 
 returns : tie.Need-returns
-returns c = rw (← c .wide .ensures) (bound (c .before .before .before .before .before .args .scope .now) (c .before .name-key .result) (c .before .before .before .before .before .args .name) (c .wide .result) (c .before .before .before .before .before .pre .0) (c .before .before .before .before .before .pre .1) (c .before .before .before .before .before .args .img .now) (c .before .name-key .ensures) (omega arith))
+returns c = bound (c .before .before .before .before .args .scope .now) (c .name-key .result) (c .before .before .before .before .args .name) (c .before .before .before .before .args .reg) (c .before .before .before .before .pre .0) (c .before .before .before .before .pre .1) (c .before .before .before .before .args .img .now) (c .name-key .ensures)
 
 pub bind-spec : {M : Type 1} → statement M
 bind-spec =
@@ -78,7 +75,6 @@ bind-spec =
     add-scope-2
     mul-scope-4
     slice-write-scope-2
-    wide-requires
     mul-scope-5
     add-scope-3
     mul-scope-6

@@ -3,6 +3,7 @@ use Prim.Native.Nat.{ℕ, _+_}
 use Rattle.emit.specs.State.{moved}
 use Rattle.emit.specs.Leaves.{took, took-not}
 use mathlib.Core.Path.{ap, _∙_}
+use native.Mathlib.Omega.{arith}
 use borrow.Author.Needs.{needs}
 use Rattle.emit.proofs.St.alloc_reg.Statement.{statement}
 use Rattle.emit.proofs.St.alloc_reg.Tie as tie
@@ -10,10 +11,6 @@ use Rattle.emit.proofs.St.alloc_reg.Tie as tie
 -- src/lib.rt:88:13
 wide-requires : tie.Need-wide-requires
 wide-requires c κs = search needs
-
--- src/lib.rt:90:23
-cast-reg : tie.Need-cast-reg
-cast-reg c = search needs
 
 -- src/lib.rt:91:28
 add-with : tie.Need-add-with
@@ -37,18 +34,17 @@ with-requires-2 c κs = search needs
 
 -- src/lib.rt:84:5
 returns : tie.Need-returns
-returns c = took _ _ _ _ (rw (c .before .before .wide .ensures) at (c .before .if1 .taken)) (c .with .ensures)
+returns c = took _ _ _ _ (omega arith) (rw (c .before .before .wide .ensures .0) at (c .before .if1 .taken)) (c .with .ensures)
 
 -- src/lib.rt:84:5
 returns-2 : tie.Need-returns-2
-returns-2 c = took-not _ _ _ _ _ (rw (c .before .before .before .wide .ensures) at (c .before .before .if1 .left)) (c .before .fail .ensures) (c .with2 .ensures ∙ ap (λ (n : ℕ). moved (c .before .fail .result) (c .before .before .before .before .args .rules .free) (n + 1)) (c .before .before .before .wide .ensures))
+returns-2 c = took-not _ _ _ _ _ (omega arith) (rw (c .before .before .before .wide .ensures .0) at (c .before .before .if1 .left)) (c .before .fail .ensures) (c .with2 .ensures ∙ ap (λ (n : ℕ). moved (c .before .fail .result) n (n + 1)) (c .before .before .before .wide .ensures .0))
 
 pub alloc-reg-spec : {M : Type 1} → statement M
 alloc-reg-spec =
     tie.close
     (tie.spec
     wide-requires
-    cast-reg
     add-with
     with-requires
     fail-requires

@@ -73,10 +73,6 @@ add-cell-3 c = search needs
 cell-requires-3 : tie.Need-cell-requires-3 Inv-loop μ-loop
 cell-requires-3 c κs = search needs
 
--- src/names.rt:67:35
-cast-t17 : tie.Need-cast-t17 Inv-loop μ-loop
-cast-t17 c = search needs
-
 -- src/names.rt:67:17
 returns : tie.Need-returns Inv-loop μ-loop
 unfolding regOf
@@ -123,7 +119,6 @@ lookup-spec =
     mul-cell-3
     add-cell-3
     cell-requires-3
-    cast-t17
     returns
     loop-less
     loop-again

@@ -24,7 +24,7 @@ enum-told-4 : tie.Need-enum-told-4
 enum-told-4 c = search needs
 
 ambiguity-requires : tie.Need-ambiguity-requires
-ambiguity-requires c κs = c .before .before .before .before .analysis .ensures .ready (c .before .before .enum-told4 .given .1) .0
+ambiguity-requires c κs = c .before .before .before .before .before .analysis .ensures .ready (c .before .before .before .enum-told4 .given .1) .0
 
 returns : tie.Need-returns
 returns c = kept _ _ _ (c .before .before .analysis .ensures) (λ e. let h = c .enum-told .given .1 in absurd (let z : _≡_ {A = ℕ} 0 1 = cc in omega arith))
@@ -36,7 +36,7 @@ returns-3 : tie.Need-returns-3
 returns-3 c = kept _ _ _ (c .before .before .analysis .ensures) (λ e. let h = c .enum-told3 .given .1 in absurd (let z : _≡_ {A = ℕ} 0 1 = cc in omega arith))
 
 returns-4 : tie.Need-returns-4
-returns-4 c = looked _ _ (c .before .before .before .before .before .analysis .ensures) (c .before .before .before .enum-told4 .given .1) (c .ambiguity .ensures)
+returns-4 c = looked _ _ (c .before .before .before .before .before .before .analysis .ensures) (c .before .before .before .before .enum-told4 .given .1) (c .ambiguity .ensures)
 
 pub judge-spec : {M : Type 1} → statement M
 judge-spec =
