@@ -87,13 +87,14 @@ pub enum Misfit {
 pub fn type_at(img: &[u8], p: usize) -> Ty
     ensures { λ r. ⌜ tyOf (now (img .entry)) r ≡ typeNamed (nameAt (now (img .entry)) p) ⌝ }
 {
-    if records::is_name(img, p, b"u64") {
+    let name = records::name(img, p);
+    if records::same(name, b"u64") {
         return Ty::U64;
     }
-    if records::is_name(img, p, b"bool") {
+    if records::same(name, b"bool") {
         return Ty::Bool;
     }
-    if records::is_name(img, p, b"field") {
+    if records::same(name, b"field") {
         return Ty::Field;
     }
     Ty::Struct(p)
@@ -274,19 +275,20 @@ fn field_type(img: &[u8], s: usize, x: usize) -> Got
 fn builtin_arity(img: &[u8], x: usize) -> Where
     ensures { λ r. ⌜ whereOf r ≡ mapped arity (builtin (nameAt (now (img .entry)) x)) ⌝ }
 {
-    if records::is_name(img, x, b"poseidon") {
+    let name = records::name(img, x);
+    if records::same(name, b"poseidon") {
         return Where::At(2);
     }
-    if records::is_name(img, x, b"msg::sender") {
+    if records::same(name, b"msg::sender") {
         return Where::At(0);
     }
-    if records::is_name(img, x, b"msg::nonce") {
+    if records::same(name, b"msg::nonce") {
         return Where::At(0);
     }
-    if records::is_name(img, x, b"block::number") {
+    if records::same(name, b"block::number") {
         return Where::At(0);
     }
-    if records::is_name(img, x, b"verify_merkle_proof") {
+    if records::same(name, b"verify_merkle_proof") {
         return Where::At(3);
     }
     Where::Nowhere

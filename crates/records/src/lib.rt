@@ -90,11 +90,12 @@ pub fn kind(img: &[u8], i: usize) -> u64
     ensures { λ r. ⌜ (r ≡ kindAt (now (img .entry)) i) × (r < 65536) ⌝ }
 {
     let n = img.len();
-    let j = least(i, n);
-    if n - j < 6 {
-        return kind_cut(img, j);
+    if i < n {
+        if 6 <= n - i {
+            return wide(img[i + 4]) + 256 * wide(img[i + 5]);
+        }
     }
-    wide(img[j + 4]) + 256 * wide(img[j + 5])
+    kind_cut(img, least(i, n))
 }
 
 // Where the payload of the record at i starts.
@@ -102,7 +103,12 @@ pub fn body(img: &[u8], i: usize) -> usize
     ensures { λ r. ⌜ (r ≡ inside (now (img .entry)) i) × (r ≤ length (now (img .entry))) ⌝ }
 {
     let n = img.len();
-    least(least(i, n) + 6, n)
+    if i < n {
+        if 6 <= n - i {
+            return i + 6;
+        }
+    }
+    n
 }
 
 // The place past the record at i: the end where not even its length is there.
@@ -110,11 +116,16 @@ pub fn past(img: &[u8], i: usize) -> usize
     ensures { λ r. ⌜ (r ≡ after (now (img .entry)) i) × (r ≤ length (now (img .entry))) ⌝ }
 {
     let n = img.len();
-    let j = least(i, n);
-    if n - j < 4 {
-        return n;
+    if i < n {
+        let left = n - i;
+        if 4 <= left {
+            let size = word_in(img, i) as usize;
+            if size <= left - 4 {
+                return i + 4 + size;
+            }
+        }
     }
-    least(j + 4 + word_in(img, j) as usize, n)
+    n
 }
 
 // The number of the Int at i.
@@ -139,6 +150,18 @@ pub fn op(img: &[u8], i: usize) -> u64
 pub fn name(img: &[u8], i: usize) -> &[u8]
     ensures { λ r. ⌜ now r ≡ nameAt (now (img .entry)) i ⌝ }
 {
+    let n = img.len();
+    if i < n {
+        let left = n - i;
+        if 6 <= left {
+            let size = word_in(img, i) as usize;
+            if 2 <= size {
+                if size <= left - 4 {
+                    return &img[i + 6..i + 4 + size];
+                }
+            }
+        }
+    }
     let a = body(img, i);
     let e = past(img, i);
     if a <= e { &img[a..e] } else { &img[a..a] }

@@ -8,17 +8,8 @@ use borrow.Author.Needs.{needs}
 use Rattle.records.proofs.kind.Statement.{statement}
 use Rattle.records.proofs.kind.Tie as tie
 
-least-requires : tie.Need-least-requires
-least-requires c κs = search needs
-
-sub-if1 : tie.Need-sub-if1
-sub-if1 c = search needs
-
-kind-cut-requires : tie.Need-kind-cut-requires
-kind-cut-requires c κs = search needs
-
-returns : tie.Need-returns
-returns c = (c .kind-cut .ensures .0 ∙ kind-near (c .before .before .before .before .args .img .now) (c .before .before .before .before .args .i) _ (c .before .before .least .ensures), c .kind-cut .ensures .1)
+sub-if2 : tie.Need-sub-if2
+sub-if2 c = search needs
 
 add-wide : tie.Need-add-wide
 add-wide c = search needs
@@ -44,17 +35,23 @@ mul-result c = search needs
 add-result : tie.Need-add-result
 add-result c = search needs
 
+returns : tie.Need-returns
+returns c = omega (arith, kind-bytes (c .before .before .before .before .before .before .before .args .img .now) (c .before .before .before .before .before .before .before .args .i))
+
+least-requires : tie.Need-least-requires
+least-requires c κs = search needs
+
+kind-cut-requires : tie.Need-kind-cut-requires
+kind-cut-requires c κs = search needs
+
 returns-2 : tie.Need-returns-2
-returns-2 c = omega (arith, kind-bytes (c .before .before .before .before .before .before .before .args .img .now) (c .before .before .before .before .before .least .result), kind-near (c .before .before .before .before .before .before .before .args .img .now) (c .before .before .before .before .before .before .before .args .i) _ (c .before .before .before .before .before .least .ensures))
+returns-2 c = (c .kind-cut .ensures .0 ∙ kind-near (c .before .before .before .before .args .img .now) (c .before .before .before .before .args .i) _ (c .before .least .ensures), c .kind-cut .ensures .1)
 
 pub kind-spec : {M : Type 1} → statement M
 kind-spec =
     tie.close
     (tie.spec
-    least-requires
-    sub-if1
-    kind-cut-requires
-    returns
+    sub-if2
     add-wide
     shared-slice-read-wide
     wide-requires
@@ -63,4 +60,7 @@ kind-spec =
     wide-requires-2
     mul-result
     add-result
+    returns
+    least-requires
+    kind-cut-requires
     returns-2)

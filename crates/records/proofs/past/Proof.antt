@@ -2,46 +2,47 @@
 -- Assumes nothing.
 use native.Mathlib.Omega.{arith}
 use Rattle.rules.specs.Bytes.{after}
-use Rattle.records.proofs.Outside.{word-near}
 use borrow.Author.Needs.{needs}
 use Rattle.records.proofs.past.Statement.{statement}
 use Rattle.records.proofs.past.Tie as tie
 
-least-requires : tie.Need-least-requires
-least-requires c κs = search needs
+sub-left : tie.Need-sub-left
+sub-left c = search needs
 
-sub-if1 : tie.Need-sub-if1
-sub-if1 c = search needs
+word-in-requires : tie.Need-word-in-requires
+word-in-requires c κs = search needs
+
+add-result : tie.Need-add-result
+add-result c = search needs
+
+add-result-2 : tie.Need-add-result-2
+add-result-2 c = search needs
 
 returns : tie.Need-returns
 unfolding after
 returns c = omega arith
 
-add-least : tie.Need-add-least
-add-least c = search needs
-
-word-in-requires : tie.Need-word-in-requires
-word-in-requires c κs = search needs
-
-add-least-2 : tie.Need-add-least-2
-add-least-2 c = search needs
-
-least-requires-2 : tie.Need-least-requires-2
-least-requires-2 c κs = search needs
-
 returns-2 : tie.Need-returns-2
 unfolding after
-returns-2 c = omega (arith, word-near (c .before .before .before .before .before .args .img .now) (c .before .before .before .before .before .args .i) _ (c .before .before .before .least .ensures))
+returns-2 c = omega arith
+
+returns-3 : tie.Need-returns-3
+unfolding after
+returns-3 c = omega arith
+
+returns-4 : tie.Need-returns-4
+unfolding after
+returns-4 c = omega arith
 
 pub past-spec : {M : Type 1} → statement M
 past-spec =
     tie.close
     (tie.spec
-    least-requires
-    sub-if1
-    returns
-    add-least
+    sub-left
     word-in-requires
-    add-least-2
-    least-requires-2
-    returns-2)
+    add-result
+    add-result-2
+    returns
+    returns-2
+    returns-3
+    returns-4)
