@@ -3,7 +3,7 @@
 use mathlib.Core.Path.{_≡_, refl, sym, ap, _∙_, subst}
 use mathlib.Core.Bool.{true, false}
 use mathlib.Core.List.{List, [], _∷_}
-use mathlib.Core.Option.{Option, none, some}
+use mathlib.Core.Option.{none, some}
 use Prim.Native.Nat.{ℕ, _%_}
 use Rattle.rules.specs.Bytes.{pick, Name, eqName, le16, le32, nameAt}
 use Rattle.rules.specs.Read.{contractAt}

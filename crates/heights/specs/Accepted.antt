@@ -8,7 +8,7 @@ use native.Mathlib.Omega.{arith}
 use borrow.Author.Tests.{ltb-false}
 use lib.Dec.{ltb}
 use lib.ListN.{length}
-use Rattle.rules.specs.Refusal.{Refusal, Res, ok, bad, _>>=_, unless, refused, numberOf}
+use Rattle.rules.specs.Refusal.{Refusal, Res, ok, _>>=_, unless, refused, numberOf}
 use Rattle.rules.specs.Emit.{Rules}
 use Rattle.rules.specs.Link.{Program}
 use Rattle.rules.specs.Build.{program, fits, listed, outcome, programAnswer, buildOf}

@@ -87,14 +87,13 @@ pub enum Misfit {
 pub fn type_at(img: &[u8], p: usize) -> Ty
     ensures { λ r. ⌜ tyOf (now (img .entry)) r ≡ typeNamed (nameAt (now (img .entry)) p) ⌝ }
 {
-    let name = records::name(img, p);
-    if records::same(name, b"u64") {
+    if records::is_name(img, p, b"u64") {
         return Ty::U64;
     }
-    if records::same(name, b"bool") {
+    if records::is_name(img, p, b"bool") {
         return Ty::Bool;
     }
-    if records::same(name, b"field") {
+    if records::is_name(img, p, b"field") {
         return Ty::Field;
     }
     Ty::Struct(p)

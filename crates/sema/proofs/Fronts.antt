@@ -9,12 +9,10 @@ use mathlib.Core.Option.{Option, none, some}
 use Prim.Native.Nat.{ℕ}
 use native.Mathlib.Omega.{arith}
 use Rattle.rules.specs.declared.Answer.{Answer}
-use Rattle.rules.specs.declared.Seen.{Seen}
 use Rattle.rules.specs.declared.Seen.the-variants.{Fault}
 use Rattle.rules.specs.Check.{checkOf}
-use Rattle.rules.specs.Tree.{Contract}
 use Rattle.rules.specs.Read.{contractAt}
-use Rattle.rules.specs.Refusal.{Refusal, Res, ok, bad, _>>=_, answer, refused}
+use Rattle.rules.specs.Refusal.{ok, bad, _>>=_, answer, refused}
 use Rattle.rules.specs.Analyse.{analyse}
 use Rattle.rules.specs.Ambiguous.{firstAmbiguous}
 use Rattle.rules.specs.Build.{passed, clear, analysed, judged, analysisAnswer}

@@ -9,7 +9,7 @@ use Rattle.rules.specs.declared.Seen.{Seen}
 use Rattle.rules.specs.declared.Seen.the-variants.{Sound, Fault}
 use Rattle.rules.specs.Check.{checkOf}
 use Rattle.rules.specs.Tree.{Function}
-use Rattle.rules.specs.Refusal.{Refusal, Res, ok, bad, _>>=_, answer, refused}
+use Rattle.rules.specs.Refusal.{Refusal, Res, ok, bad, _>>=_}
 use Rattle.rules.specs.Analyse.{function, functions, analyse}
 use Rattle.rules.specs.Read.{functionAt, contractAt}
 use Rattle.rules.specs.Build.{passed}
