@@ -1,4 +1,5 @@
 //! The least stack, in KiB, on which the deepest trees of each kind are built. (`many` has more parameters than there are registers: the answer is 41.)
+//! Trees that end in a `lost` name are refused by analysis, so that theirs is the stack of analysis.
 use haspnettle::ast::{BinOp, Contract, Expr, Function, Param, Stmt, StorageField, Struct};
 use haspnettle::{build_into, image, Unwritable};
 use std::{env, process::Command, thread};
@@ -51,6 +52,7 @@ fn deepest_body(wrap: impl Fn(Vec<Stmt>) -> Stmt) -> Contract {
 fn kinds() -> Vec<(&'static str, Contract)> {
     let call = |f: &str, a: Vec<Expr>| Expr::Call(f.into(), a);
     let q = || Expr::Ident("q".into());
+    let lost = || Expr::Ident("lost".into());
     let inits = |e: Expr| (0..63).map(|i| (format!("f{i}"), q())).chain([("f63".into(), e)]).collect();
     vec![
         ("empty", contract(vec![])),
@@ -64,6 +66,11 @@ fn kinds() -> Vec<(&'static str, Contract)> {
         ("literal", deepest(Expr::Ident("p".into()), |e| Expr::StructLiteral("S".into(), vec![("x".into(), e)]))),
         ("wide literal", deepest(Expr::Ident("w".into()), |e| Expr::StructLiteral("W".into(), inits(e)))),
         ("access", deepest(Expr::Ident("p".into()), |e| Expr::FieldAccess(Box::new(e), "x".into()))),
+        ("lost call", deepest(lost(), |e| call("g", vec![e]))),
+        ("lost mapping", deepest(lost(), |e| Expr::MappingRead("m".into(), Box::new(e)))),
+        ("lost binary", deepest(lost(), |e| Expr::Binary(Box::new(e), BinOp::Add, Box::new(Expr::Int(1))))),
+        ("lost access", deepest(lost(), |e| Expr::FieldAccess(Box::new(e), "x".into()))),
+        ("lost literal", deepest(lost(), |e| Expr::StructLiteral("S".into(), vec![("x".into(), e)]))),
         ("if", deepest_body(|b| Stmt::If(Expr::Int(1), b, None))),
         ("else", deepest_body(|b| Stmt::If(Expr::Int(1), vec![], Some(b)))),
         ("while", deepest_body(|b| Stmt::While(Expr::Int(1), b))),

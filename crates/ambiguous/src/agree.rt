@@ -88,7 +88,7 @@ fn forget(seen: &mut [usize])
 }
 
 // No field has two positions. The table stands in what is lent, and is left there.
-pub fn all_agree(seen: &mut [usize; 2048], img: &[u8], tables: &[usize]) -> bool
+pub fn all_agree(seen: &mut [usize; records::NAMES], img: &[u8], tables: &[usize]) -> bool
     requires { ⌜ Tabled (now img) (now tables) ⌝ }
     ensures { λ r. ⌜ (r ≡ true → (x : Name) → isAmbiguous (contractAt (now (img .entry))) x ≡ false) ⌝ }
 {

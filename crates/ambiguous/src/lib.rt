@@ -262,7 +262,7 @@ fn in_functions(img: &[u8], tables: &[usize]) -> Spot
 }
 
 // 01: row 30, place. Where no field has two positions the tree is not walked. What is lent serves as a table, whatever it held.
-pub fn first_ambiguous(seen: &mut [usize; 2048], img: &[u8], tables: &[usize]) -> Spot
+pub fn first_ambiguous(seen: &mut [usize; records::NAMES], img: &[u8], tables: &[usize]) -> Spot
     requires { ⌜ Tabled (now img) (now tables) ⌝ }
     ensures { λ r. ⌜ spotOf r ≡ firstAmbiguous (contractAt (now (img .entry))) ⌝ }
 {

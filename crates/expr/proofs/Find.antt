@@ -7,7 +7,7 @@ use mathlib.Core.Path.{_≡_, refl, sym, ap, _∙_}
 use mathlib.Core.Bool.{Bool, true, false}
 use mathlib.Core.List.{List}
 use mathlib.Core.Option.{none, some}
-use Prim.Native.Nat.{ℕ, zero, suc, _+_, _-_, _*_, _%_}
+use Prim.Native.Nat.{ℕ, zero, suc, _+_, _-_, _*_}
 use native.Mathlib.Numerals.{sub-one}
 use native.Mathlib.Omega.{arith}
 use lib.Dec.{eqb}
@@ -17,7 +17,7 @@ use Rattle.rules.specs.Bytes.{pick, Name, eqName}
 use Rattle.rules.specs.Emit.{Scope, with-name, find}
 use Rattle.records.specs.Names.{name-eq}
 use Rattle.records.specs.Keys.{keyOf, differ}
-use Rattle.expr.specs.Scope.{named, scopeOf}
+use Rattle.expr.specs.Scope.{named, regNo, scopeOf}
 
 passed : (b : Bool) (nm : Name) (r : ℕ) (rest : Scope) (x : Name) → (b ≡ true → eqName nm x ≡ false) → find x (pick b (with-name nm r rest) rest) ≡ find x rest
 unfolding find pick
@@ -29,21 +29,21 @@ unfolding find pick
 met nm r rest x key e h = rw (eq-eqb key (keyOf nm) (e ∙ ap keyOf (sym (name-eq nm x h)))) (rw h refl)
 
 module _ (img s : List ℕ) (x : Name) where
-  pub find-hit : (k : ℕ) → (k ≡ 0 → ⊥) → getD s (3 * (k - 1) + 1) 0 ≡ keyOf x → eqName (named img s (k - 1)) x ≡ true
-      → some (getD s (3 * (k - 1) + 3) 0 % 256) ≡ find x (scopeOf img s k)
+  pub find-hit : (k : ℕ) → (k ≡ 0 → ⊥) → getD s (2 * (k - 1) + 1) 0 ≡ keyOf x → eqName (named img s (k - 1)) x ≡ true
+      → some (regNo s (k - 1)) ≡ find x (scopeOf img s k)
   unfolding scopeOf
   find-hit zero z e h = absurd (z refl)
-  find-hit (suc k) z e h = rw sub-one (sym (met (named img s k) (getD s (3 * k + 3) 0 % 256) (scopeOf img s k) x (getD s (3 * k + 1) 0) (rw sub-one at e) (rw sub-one at h)))
+  find-hit (suc k) z e h = rw sub-one (sym (met (named img s k) (regNo s k) (scopeOf img s k) x (getD s (2 * k + 1) 0) (rw sub-one at e) (rw sub-one at h)))
 
   pub skip-name : (k : ℕ) → (k ≡ 0 → ⊥) → eqName (named img s (k - 1)) x ≡ false → find x (scopeOf img s k) ≡ find x (scopeOf img s (k - 1))
   unfolding scopeOf
   skip-name zero z h = absurd (z refl)
-  skip-name (suc k) z h = rw sub-one (passed _ (named img s k) (getD s (3 * k + 3) 0 % 256) (scopeOf img s k) x (λ b. rw sub-one at h))
+  skip-name (suc k) z h = rw sub-one (passed _ (named img s k) (regNo s k) (scopeOf img s k) x (λ b. rw sub-one at h))
 
-  pub skip-key : (k : ℕ) → (k ≡ 0 → ⊥) → (getD s (3 * (k - 1) + 1) 0 ≡ keyOf x → ⊥) → find x (scopeOf img s k) ≡ find x (scopeOf img s (k - 1))
+  pub skip-key : (k : ℕ) → (k ≡ 0 → ⊥) → (getD s (2 * (k - 1) + 1) 0 ≡ keyOf x → ⊥) → find x (scopeOf img s k) ≡ find x (scopeOf img s (k - 1))
   unfolding scopeOf
   skip-key zero z h = absurd (z refl)
-  skip-key (suc k) z h = rw sub-one (passed _ (named img s k) (getD s (3 * k + 3) 0 % 256) (scopeOf img s k) x
+  skip-key (suc k) z h = rw sub-one (passed _ (named img s k) (regNo s k) (scopeOf img s k) x
       (λ b. differ (named img s k) x (λ e. (rw sub-one at h) (eqb-true _ _ b ∙ e))))
 
   pub find-none : (k : ℕ) → k ≡ 0 → none ≡ find x (scopeOf img s k)

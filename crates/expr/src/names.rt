@@ -1,7 +1,7 @@
 // What a name stands for: a register of the scope, a function, a builtin.
 //
-// The scope is a lent array of numbers: the count of names (512 at most), then three cells for each: its key, the place of its Name,
-// its register. The newest of a name counts.
+// The scope is a lent array of numbers: the count of names (512 at most), then two cells for each: its key, and the place of its
+// Name with its register beside it. The newest of a name counts.
 ghost use mathlib.Core.Path.{_≡_};
 ghost use mathlib.Core.Bool.{false};
 ghost use mathlib.Core.List.{List};
@@ -54,10 +54,10 @@ pub fn lookup(img: &[u8], scope: &[usize], x: usize) -> Local
     let mut k = names_in(scope);
     while k != 0 {
         k -= 1;
-        if cell(scope, 3 * k + 1) == key {
-            if records::same_name(img, cell(scope, 3 * k + 2), x) {
-                let r = cell(scope, 3 * k + 3);
-                return Local::Reg(r as u64);
+        if cell(scope, 2 * k + 1) == key {
+            let c = cell(scope, 2 * k + 2);
+            if records::same_name(img, records::place_in(c), x) {
+                return Local::Reg(records::number_in(c) as u64);
             }
         }
     }

@@ -1,11 +1,11 @@
 -- The loop of `link`: after i turns the first i numbers are linked, and the rest is as it was.
 --     Linking      that
---     long, here, more, stay      the slice's length, the number that is next, one turn, a turn at a word
+--     long, here, more, skip      the slice's length, the number that is next, one turn, past words that are no open calls
 -- Assumes nothing.
 use mathlib.Core.Path.{_≡_, refl, sym, ap, _∙_}
 use mathlib.Core.Bool.{Bool, true, false}
 use mathlib.Core.List.{List, [], _∷_, _++_}
-use Prim.Native.Nat.{ℕ, _+_, _^_, _≤_, _<_, min}
+use Prim.Native.Nat.{ℕ, _+_, _≤_, _<_, min}
 use native.Mathlib.Nat.{zero-add}
 use native.Mathlib.Numerals.{add-one}
 use native.Mathlib.Omega.{arith}
@@ -15,6 +15,7 @@ use lib.Dec.{leb}
 use borrow.Author.Tests.{leb-true, leb-false}
 use Rattle.rules.specs.Lent.{over}
 use Rattle.lent.specs.Over.{length-over, over-more, getD-over-past}
+use Rattle.link.specs.Closed.{Shut, Closed, along}
 use Rattle.link.specs.Linked.{linked, kept-word, linkedFrom, length-linked, linked-more}
 
 pub record Linking (F c₀ : List ℕ) (end : ℕ) (c : List ℕ) (i : ℕ) : Type 0 where
@@ -44,8 +45,10 @@ module _ {F c₀ : List ℕ} {end : ℕ} {c : List ℕ} {i : ℕ} (v : Linking F
       ∙ ap (λ (r : List ℕ). over r c₀) (sym (linked-more F 0 (take i c₀) (getD c₀ i 0)))
       ∙ ap (λ (r : List ℕ). over (linkedFrom F 0 r) c₀) (sym (take-suc c₀ i 0 k) ∙ ap (λ (n : ℕ). take n c₀) (sym (add-one i)))
 
-  pub stay : getD c i 0 < 2 ^ 63 → i < end → c ≡ over (linkedFrom F 0 (take (i + 1) c₀)) c₀
-  stay g h = sym (set-getD c i 0) ∙ more (getD c i 0) (sym (kept-word F i (getD c i 0) g)) h
+-- Past words that are no open calls.
+pub skip : {F c₀ : List ℕ} {end : ℕ} {c : List ℕ} {i r : ℕ} → Closed (Shut c) i end r → Linking F c₀ end c i → Linking F c₀ end c r
+skip {F} {c₀} {end} {c} = along (λ j. Linking F c₀ end c j)
+    (λ j h p v. record { within = omega arith; room = v .room; same = sym (set-getD c j 0) ∙ more v (getD c j 0) (sym (kept-word F j (getD c j 0) p)) h })
 
 -- All that there are of the first n.
 pub taken : (c : List ℕ) (n i : ℕ) → i ≡ min n (length c) → take i c ≡ take n c

@@ -3,7 +3,7 @@ use mathlib.Core.Bool.{Bool, true, false}
 use mathlib.Core.List.{List, []}
 use mathlib.Core.Option.{none, some}
 use mathlib.Core.Path.{_≡_, refl, sym, ap, _∙_}
-use Prim.Native.Nat.{ℕ, zero, suc, _+_, _-_, _≤_, _<_}
+use Prim.Native.Nat.{ℕ, zero, suc, _+_, _-_, _*_, _/_, _%_, _≤_, _<_}
 use native.Mathlib.Omega.{arith}
 use borrow.Author.Tests.{eq-eqb, eqb-true}
 use lib.Dec.{eqb}
@@ -13,8 +13,9 @@ use Rattle.rules.specs.Bytes.{pick, Name, nameAt, eqName}
 use Rattle.rules.specs.Types.{Typ, tagOf, nameOf, Env, find, with-name}
 use Rattle.records.specs.Names.{name-eq}
 use Rattle.records.specs.Keys.{keyOf, differ}
+use Rattle.records.specs.Cells.{placeIn, Beside}
 use Rattle.lookup.specs.declared.Ty.{Ty}
-use Rattle.lookup.specs.Answers.{tyOf, typOf, envOf}
+use Rattle.lookup.specs.Answers.{tyOf, typOf, typeBeside, envOf}
 use Rattle.lookup.specs.Scope.{Pushed, env-frame}
 
 -- the name a, of type t, with the key c, before the names Γ, in the search of x
@@ -45,35 +46,31 @@ module _ (x a : Name) (t : Typ) (Γ : Env) where
   no-key c n = not-keyed c (eqb c (keyOf a)) refl n
 
 module _ (img env : List ℕ) where
-  pub env-more : (k : ℕ) → 4 ≤ k → envOf img env k ≡ pick (eqb (getD env (k - 4) 0) (keyOf (nameAt img (getD env (k - 4 + 1) 0))))
-      (with-name (nameAt img (getD env (k - 4 + 1) 0)) (typOf (getD env (k - 4 + 2) 0) (nameAt img (getD env (k - 4 + 3) 0))) (envOf img env (k - 4))) (envOf img env (k - 4))
+  pub env-more : (k : ℕ) → 2 ≤ k → envOf img env k ≡ pick (eqb (getD env (k - 2) 0) (keyOf (nameAt img (placeIn (getD env (k - 2 + 1) 0)))))
+      (with-name (nameAt img (placeIn (getD env (k - 2 + 1) 0))) (typeBeside img (getD env (k - 2 + 1) 0)) (envOf img env (k - 2))) (envOf img env (k - 2))
   unfolding envOf
   env-more zero h = absurd (omega arith)
   env-more (suc zero) h = absurd (omega arith)
-  env-more (suc (suc zero)) h = absurd (omega arith)
-  env-more (suc (suc (suc zero))) h = absurd (omega arith)
-  env-more (suc (suc (suc (suc k)))) h = let e : suc (suc (suc (suc k))) - 4 ≡ k = omega arith in simp e
+  env-more (suc (suc k)) h = let e : suc (suc k) - 2 ≡ k = omega arith in simp e
 
-  env-none : (k : ℕ) → k < 4 → envOf img env k ≡ []
+  env-none : (k : ℕ) → k < 2 → envOf img env k ≡ []
   unfolding envOf
   env-none zero h = refl
   env-none (suc zero) h = refl
-  env-none (suc (suc zero)) h = refl
-  env-none (suc (suc (suc zero))) h = refl
-  env-none (suc (suc (suc (suc k)))) h = absurd (omega arith)
+  env-none (suc (suc k)) h = absurd (omega arith)
 
   module _ (x : Name) (k : ℕ) where
-    pub find-hit : 4 ≤ k → getD env (k - 4) 0 ≡ keyOf x → eqName (nameAt img (getD env (k - 4 + 1) 0)) x ≡ true
-        → find x (envOf img env k) ≡ some (typOf (getD env (k - 4 + 2) 0) (nameAt img (getD env (k - 4 + 3) 0)))
+    pub find-hit : 2 ≤ k → getD env (k - 2) 0 ≡ keyOf x → eqName (nameAt img (placeIn (getD env (k - 2 + 1) 0))) x ≡ true
+        → find x (envOf img env k) ≡ some (typeBeside img (getD env (k - 2 + 1) 0))
     find-hit h q e = rw (env-more k h) (here x _ _ _ _ q e)
 
-    pub find-miss : 4 ≤ k → eqName (nameAt img (getD env (k - 4 + 1) 0)) x ≡ false → find x (envOf img env k) ≡ find x (envOf img env (k - 4))
+    pub find-miss : 2 ≤ k → eqName (nameAt img (placeIn (getD env (k - 2 + 1) 0))) x ≡ false → find x (envOf img env k) ≡ find x (envOf img env (k - 2))
     find-miss h e = rw (env-more k h) (not-here x _ _ _ _ e)
 
-    pub find-other : 4 ≤ k → (getD env (k - 4) 0 ≡ keyOf x → ⊥) → find x (envOf img env k) ≡ find x (envOf img env (k - 4))
+    pub find-other : 2 ≤ k → (getD env (k - 2) 0 ≡ keyOf x → ⊥) → find x (envOf img env k) ≡ find x (envOf img env (k - 2))
     find-other h n = rw (env-more k h) (no-key x _ _ _ _ n)
 
-    pub find-none : k < 4 → find x (envOf img env k) ≡ none
+    pub find-none : k < 2 → find x (envOf img env k) ≡ none
     unfolding find
     find-none h = rw (env-none k h)
 
@@ -91,67 +88,51 @@ keyed : (a : Name) (t : Typ) (Γ : Env) → pick (eqb (keyOf a) (keyOf a)) (with
 unfolding pick
 keyed a t Γ = rw (eq-eqb (keyOf a) (keyOf a) refl)
 
-module _ (img e : List ℕ) (top q x a b : ℕ) (t : Ty) (room : top + 4 ≤ length e) (tq : q ≡ keyOf (nameAt img x)) (ta : a ≡ tagOf (tyOf img t)) (tb : nameAt img b ≡ nameOf (tyOf img t)) where
-  e1 : List ℕ
-  e1 = set e top q
+tag-small : (t : Typ) → tagOf t < 8
+unfolding tagOf
+tag-small Typ.u64 = omega arith
+tag-small Typ.bool = omega arith
+tag-small Typ.field = omega arith
+tag-small Typ.void = omega arith
+tag-small Typ.unknown = omega arith
+tag-small (Typ.struct x) = omega arith
 
-  e2 : List ℕ
-  e2 = set e1 (top + 1) x
+-- the tag and the place of the name of a type, as one number
+module _ (img : List ℕ) (a b : ℕ) (t : Ty) (ta : a ≡ tagOf (tyOf img t)) where
+  pub type-fits : length img ≤ 65536 → b ≤ length img → a + 8 * b < 1099511627776
+  type-fits small h = omega (arith, ta, tag-small (tyOf img t))
 
-  e3 : List ℕ
-  e3 = set e2 (top + 2) a
+  type-back : nameAt img b ≡ nameOf (tyOf img t) → typOf ((a + 8 * b) % 8) (nameAt img ((a + 8 * b) / 8)) ≡ tyOf img t
+  type-back tb =
+      let y : (a + 8 * b) % 8 ≡ a = omega (arith, ta, tag-small (tyOf img t)) in
+      let z : (a + 8 * b) / 8 ≡ b = omega (arith, ta, tag-small (tyOf img t)) in
+      rw (y, z, ta, tb) (typ-tag (tyOf img t))
 
-  e4 : List ℕ
-  e4 = set e3 (top + 3) b
+  module _ (e : List ℕ) (top q x v : ℕ) (room : top + 2 ≤ length e) (tq : q ≡ keyOf (nameAt img x)) (tv : Beside img x (a + 8 * b) v) (tb : nameAt img b ≡ nameOf (tyOf img t)) where
+    keyed-cell : List ℕ
+    keyed-cell = set e top q
 
-  size1 : length e1 ≡ length e
-  unfolding e1
-  size1 = length-set e top q
+    more : List ℕ
+    more = set keyed-cell (top + 1) v
 
-  size2 : length e2 ≡ length e
-  unfolding e2
-  size2 = length-set e1 (top + 1) x ∙ size1
+    below : (i : ℕ) → i < top → getD more i 0 ≡ getD e i 0
+    unfolding keyed-cell more
+    below i h = getD-set-other keyed-cell (top + 1) i v 0 (λ z. omega arith) ∙ getD-set-other e top i q 0 (λ z. omega arith)
 
-  size3 : length e3 ≡ length e
-  unfolding e3
-  size3 = length-set e2 (top + 2) a ∙ size2
+    key-there : getD more top 0 ≡ q
+    unfolding keyed-cell more
+    key-there = getD-set-other keyed-cell (top + 1) top v 0 (λ z. omega arith) ∙ getD-set-same e top q 0 (omega arith)
 
-  size4 : length e4 ≡ length e
-  unfolding e4
-  size4 = length-set e3 (top + 3) b ∙ size3
+    cell-there : getD more (top + 1) 0 ≡ v
+    unfolding keyed-cell more
+    cell-there = getD-set-same keyed-cell (top + 1) v 0 (omega (arith, length-set e top q))
 
-  below : (i : ℕ) → i < top → getD e4 i 0 ≡ getD e i 0
-  unfolding e1 e2 e3 e4
-  below i h =
-      getD-set-other e3 (top + 3) i b 0 (λ z. omega arith) ∙ getD-set-other e2 (top + 2) i a 0 (λ z. omega arith)
-      ∙ getD-set-other e1 (top + 1) i x 0 (λ z. omega arith) ∙ getD-set-other e top i q 0 (λ z. omega arith)
+    one-more : envOf img more (top + 2) ≡ with-name (nameAt img x) (tyOf img t) (envOf img e top)
+    one-more =
+        let z : top + 2 - 2 ≡ top = omega arith in
+        rw (env-more img more (top + 2) (omega arith), z, key-there ∙ tq, cell-there, tv .name, tv .number, type-back tb, env-frame img e more top below)
+        (keyed (nameAt img x) (tyOf img t) (envOf img e top))
 
-  at0 : getD e4 top 0 ≡ q
-  unfolding e1 e2 e3 e4
-  at0 =
-      getD-set-other e3 (top + 3) top b 0 (λ z. omega arith) ∙ getD-set-other e2 (top + 2) top a 0 (λ z. omega arith)
-      ∙ getD-set-other e1 (top + 1) top x 0 (λ z. omega arith) ∙ getD-set-same e top q 0 (omega arith)
-
-  at1 : getD e4 (top + 1) 0 ≡ x
-  unfolding e2 e3 e4
-  at1 =
-      getD-set-other e3 (top + 3) (top + 1) b 0 (λ z. omega arith) ∙ getD-set-other e2 (top + 2) (top + 1) a 0 (λ z. omega arith)
-      ∙ getD-set-same e1 (top + 1) x 0 (omega (arith, size1))
-
-  at2 : getD e4 (top + 2) 0 ≡ a
-  unfolding e3 e4
-  at2 = getD-set-other e3 (top + 3) (top + 2) b 0 (λ z. omega arith) ∙ getD-set-same e2 (top + 2) a 0 (omega (arith, size2))
-
-  at3 : getD e4 (top + 3) 0 ≡ b
-  unfolding e4
-  at3 = getD-set-same e3 (top + 3) b 0 (omega (arith, size3))
-
-  more4 : envOf img e4 (top + 4) ≡ with-name (nameAt img x) (tyOf img t) (envOf img e top)
-  more4 =
-      let z : top + 4 - 4 ≡ top = omega arith in
-      rw (env-more img e4 (top + 4) (omega arith), z, at0 ∙ tq, at1, at2 ∙ ta, ap (nameAt img) at3 ∙ tb, typ-tag (tyOf img t), env-frame img e e4 top below)
-      (keyed (nameAt img x) (tyOf img t) (envOf img e top))
-
-  pub pushed : Pushed img e (set (set (set (set e top q) (top + 1) x) (top + 2) a) (top + 3) b) top x t (top + 4)
-  unfolding e1 e2 e3 e4
-  pushed = record { next = refl; more = more4; kept = below; size = size4 }
+    pub pushed : Pushed img e (set (set e top q) (top + 1) v) top x t (top + 2)
+    unfolding keyed-cell more
+    pushed = record { next = refl; more = one-more; kept = below; size = length-set keyed-cell (top + 1) v ∙ length-set e top q }

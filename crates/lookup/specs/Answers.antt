@@ -6,7 +6,7 @@
 use mathlib.Core.Bool.{Bool}
 use mathlib.Core.List.{List, [], map}
 use mathlib.Core.Option.{Option, none, some}
-use Prim.Native.Nat.{ℕ, zero, suc, _+_}
+use Prim.Native.Nat.{ℕ, zero, suc, _+_, _/_, _%_}
 use lib.Dec.{eqb}
 use lib.ListN.{getD}
 use Rattle.rules.specs.Bytes.{pick, Name, nameAt}
@@ -16,6 +16,7 @@ use Rattle.rules.specs.Refusal.{Refusal, Res, ok, bad}
 use Rattle.rules.specs.Analyse.{Sig, sig, sigOf, repeated, Misfit}
 use Rattle.rules.specs.Read.{functionAt, placesFrom, second}
 use Rattle.records.specs.Keys.{keyOf}
+use Rattle.records.specs.Cells.{placeIn, numberIn}
 use Rattle.lookup.specs.declared.Ty.{Ty}
 use Rattle.lookup.specs.declared.Ty.the-variants as ty
 use Rattle.lookup.specs.declared.Where.{Where}
@@ -70,16 +71,18 @@ typOf k x =
     pick (eqb k 0) Typ.u64 (pick (eqb k 1) Typ.bool (pick (eqb k 2) Typ.field (pick (eqb k 3) Typ.void
     (pick (eqb k 4) Typ.unknown (Typ.struct x)))))
 
--- the names in scope that an array holds, four numbers to a name: the name's key, its place, the type's tag, the place of the type's name.
+-- the type beside a place: its tag, and the place of a struct's name
+abbrev pub typeBeside : List ℕ → ℕ → Typ
+typeBeside img c = typOf (numberIn c % 8) (nameAt img (numberIn c / 8))
+
+-- the names in scope that an array holds, two cells to a name: the name's key, and its place with its type beside it.
 -- The last of them is the newest. A name with another key than its own is none.
 unfoldable pub envOf : List ℕ → List ℕ → ℕ → Env
 envOf img env zero = []
 envOf img env (suc zero) = []
-envOf img env (suc (suc zero)) = []
-envOf img env (suc (suc (suc zero))) = []
-envOf img env (suc (suc (suc (suc k)))) =
-    pick (eqb (getD env k 0) (keyOf (nameAt img (getD env (k + 1) 0))))
-    (with-name (nameAt img (getD env (k + 1) 0)) (typOf (getD env (k + 2) 0) (nameAt img (getD env (k + 3) 0))) (envOf img env k))
+envOf img env (suc (suc k)) =
+    pick (eqb (getD env k 0) (keyOf (nameAt img (placeIn (getD env (k + 1) 0)))))
+    (with-name (nameAt img (placeIn (getD env (k + 1) 0))) (typeBeside img (getD env (k + 1) 0)) (envOf img env k))
     (envOf img env k)
 
 unfoldable pub retOf : Option Sig → Typ

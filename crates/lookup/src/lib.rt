@@ -219,11 +219,13 @@ pub fn find_local(img: &[u8], env: &[usize], top: usize, x: usize) -> Got
 {
     let key = records::name_key(img, x);
     let mut k = top;
-    while 4 <= k {
-        k -= 4;
+    while 2 <= k {
+        k -= 2;
         if cell(env, k) == key {
-            if records::same_name(img, cell(env, k + 1), x) {
-                return Got::Type(type_of(cell(env, k + 2), cell(env, k + 3)));
+            let c = cell(env, k + 1);
+            if records::same_name(img, records::place_in(c), x) {
+                let n = records::number_in(c);
+                return Got::Type(type_of(n % 8, n / 8));
             }
         }
     }
@@ -232,17 +234,16 @@ pub fn find_local(img: &[u8], env: &[usize], top: usize, x: usize) -> Got
 
 // 001: env.insert. One name more, with the name at x, of type t.
 pub fn push(env: &mut [usize], img: &[u8], top: usize, x: usize, t: Ty) -> usize
-    requires { ⌜ top + 4 ≤ length (now env) ⌝ }
+    requires { ⌜ (top + 2 ≤ length (now env)) × (length (now img) ≤ 65536) ⌝ }
     ensures { λ r. ⌜ Pushed (now (img .entry)) (now (env .entry)) (now (env .exit)) top x t r ⌝ }
 {
     let key = records::name_key(img, x);
     let a = tag(t);
-    let b = name_place(img, t);
+    let b = records::within(img, name_place(img, t));
+    let cell = records::beside(img, x, a + 8 * b);
     env[top] = key;
-    env[top + 1] = x;
-    env[top + 2] = a;
-    env[top + 3] = b;
-    top + 4
+    env[top + 1] = cell;
+    top + 2
 }
 
 // The type of the Field at f.

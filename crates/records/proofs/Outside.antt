@@ -1,13 +1,13 @@
 -- Readings at the image's end: past it a byte is 0.
 --     word-out, word-one, word-two, word-three    four bytes of which none, one, two or three are there
---     word-near, kind-near                        what starts past the end may as well start at the end
+--     word-near, kind-near, name-near             what starts past the end may as well start at the end
 -- Assumes nothing.
 use mathlib.Core.List.{List}
-use mathlib.Core.Path.{_≡_, sym, ap, _∙_}
+use mathlib.Core.Path.{_≡_, refl, sym, ap, _∙_}
 use Prim.Native.Nat.{ℕ, _+_, _*_, _≤_, min}
 use native.Mathlib.Omega.{arith}
 use lib.ListN.{length, getD, List·getD-eq-default}
-use Rattle.rules.specs.Bytes.{le16, le32, kindAt}
+use Rattle.rules.specs.Bytes.{le16, le32, kindAt, inside, after, nameAt}
 use Rattle.records.specs.Small.{word-bytes}
 use Rattle.records.proofs.Eights.{by-cases}
 
@@ -42,3 +42,12 @@ module _ (img : List ℕ) where
 
   pub kind-near : (i j : ℕ) → j ≡ min i (length img) → kindAt img j ≡ kindAt img i
   kind-near = near (λ (i : ℕ). kindAt img i) (λ i h. le16-out (i + 4) (omega arith))
+
+  pub name-near : (i j : ℕ) → j ≡ min i (length img) → nameAt img j ≡ nameAt img i
+  unfolding nameAt inside after
+  name-near i j e = by-cases (nameAt img j ≡ nameAt img i) (length img) i
+      (λ h.
+      let a : after img j ≡ after img i = omega arith in
+      let b : inside img j ≡ inside img i = omega arith in
+      rw (a, b) refl)
+      (λ h. ap (nameAt img) (omega arith))

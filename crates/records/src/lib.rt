@@ -5,6 +5,10 @@ ghost use lib.ListN.{length};
 ghost use Rattle.rules.specs.Bytes.{byteAt, le32, le64, kindAt, inside, after, intAt, opAt, nameAt, eqName};
 ghost use Rattle.rules.specs.Read.{placesFrom};
 ghost use Rattle.records.specs.Keys.{keyOf};
+ghost use Rattle.records.specs.Cells.{placeIn, numberIn, Beside};
+
+// Cells for the names of a function (01: 512): two for each, and their count.
+pub const NAMES: usize = 1025;
 
 // The byte at i.
 pub fn byte(img: &[u8], i: usize) -> u64
@@ -263,6 +267,35 @@ pub fn name_key(img: &[u8], i: usize) -> usize
     ensures { λ r. ⌜ r ≡ keyOf (nameAt (now (img .entry)) i) ⌝ }
 {
     key(name(img, i))
+}
+
+// The place p, or the end: the same name stands there.
+pub fn within(img: &[u8], p: usize) -> usize
+    ensures { λ r. ⌜ (r ≤ length (now (img .entry))) × ((nameAt (now (img .entry)) r ≡ nameAt (now (img .entry)) p) × (p ≤ length (now (img .entry)) → r ≡ p)) ⌝ }
+{
+    least(p, img.len())
+}
+
+// A place and a number in one cell of an array: 01's images have at most 65,536 bytes.
+pub fn beside(img: &[u8], p: usize, number: usize) -> usize
+    requires { ⌜ (length (now img) ≤ 65536) × (number < 1099511627776) ⌝ }
+    ensures { λ r. ⌜ Beside (now (img .entry)) p number r ⌝ }
+{
+    within(img, p) + 131072 * number
+}
+
+// The place in a cell.
+pub fn place_in(cell: usize) -> usize
+    ensures { λ r. ⌜ r ≡ placeIn cell ⌝ }
+{
+    cell % 131072
+}
+
+// The number beside it.
+pub fn number_in(cell: usize) -> usize
+    ensures { λ r. ⌜ r ≡ numberIn cell ⌝ }
+{
+    cell / 131072
 }
 
 // How many records stand from `at` to `end`, `most` at most.

@@ -13,6 +13,7 @@ use Rattle.rules.specs.Refusal.{Refusal, Res, ok, bad, _>>=_}
 use Rattle.rules.specs.Analyse.{function, functions, analyse}
 use Rattle.rules.specs.Read.{functionAt, contractAt}
 use Rattle.rules.specs.Build.{passed}
+use Rattle.rules.specs.Joined.{whole}
 use Rattle.bounds.specs.Held.{each-of-map, each-get}
 use Rattle.bounds.specs.Contracts.{names-few}
 use Rattle.tables.specs.Listed.{functionsIn}
@@ -25,8 +26,12 @@ unfolding passed
 sound-in (Sound q m) h = (q, m, refl)
 sound-in (Fault n p) h = absurd (let z : _≡_ {A = ℕ} 0 1 = cc in omega arith)
 
+-- 01: an image has at most 65,536 bytes
+pub small : (img : List ℕ) → Passed img → length img ≤ 65536
+small img h = let s = sound-in (checkOf img) h in whole img (s .0) (s .1) (s .2) .0
+
 -- 01: parameters, Lets and Fors together in one function 512
-pub names-fit : (img : List ℕ) → Passed img → (i : ℕ) → i < length (functionsIn img) → 4 * names (functionAt img (getD (functionsIn img) i 0)) ≤ 2048
+pub names-fit : (img : List ℕ) → Passed img → (i : ℕ) → i < length (functionsIn img) → 2 * names (functionAt img (getD (functionsIn img) i 0)) ≤ 1025
 unfolding contractAt
 names-fit img h i l =
     let s = sound-in (checkOf img) h in

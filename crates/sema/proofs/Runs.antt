@@ -40,7 +40,7 @@ within-chain a b c d (after.Refused f) h l w = tt
 
 -- behind a statement
 module _ {img e e1 : List ℕ} {top m : ℕ} {r : After} {o : Res Env} (p : Stepped img e e1 top m r o) where
-  pub in-top : {k : ℕ} → r ≡ after.Top k → (top ≤ k) × (k ≤ top + 4 * m)
+  pub in-top : {k : ℕ} → r ≡ after.Top k → (top ≤ k) × (k ≤ top + 2 * m)
   unfolding Within
   in-top q = rw q at (p .within)
 
@@ -58,7 +58,7 @@ module _ {img e e1 : List ℕ} {top m : ℕ} {r : After} {o : Res Env} (p : Step
       let w = in-top q in
       record {
         answer = rw (← answered q) (s .answer);
-        within = within-chain top k (k + 4 * n) (top + 4 * (m + n)) r2 (w .0) (omega (arith, w .1)) (s .within);
+        within = within-chain top k (k + 2 * n) (top + 2 * (m + n)) r2 (w .0) (omega (arith, w .1)) (s .within);
         kept = λ i l. s .kept i (omega (arith, w .0)) ∙ p .kept i l;
         size = s .size ∙ p .size;
       }

@@ -46,10 +46,10 @@ unfoldable pub Within : ℕ → ℕ → After → Type 0
 Within a b (after.Top k) = (a ≤ k) × (k ≤ b)
 Within a b (after.Refused f) = Unit {0}
 
--- the array e, in use up to top, becomes e': below top it is as it was, and at most 4 times m cells more are in use
+-- the array e, in use up to top, becomes e': below top it is as it was, and at most 2 times m cells more are in use
 pub record Stepped (img e e' : List ℕ) (top m : ℕ) (r : After) (o : Res Env) : Type 0 where
   pub answer : afterOf img e' r ≡ o
-  pub within : Within top (top + 4 * m) r
+  pub within : Within top (top + 2 * m) r
   pub kept : (i : ℕ) → i < top → getD e' i 0 ≡ getD e i 0
   pub size : length e' ≡ length e
 
@@ -73,7 +73,7 @@ inLoop C R x b Γ = do
 
 -- the parameters at some places
 pub record Bound (img e e' : List ℕ) (top : ℕ) (ps : List ℕ) (r : ℕ) : Type 0 where
-  pub next : r ≡ top + 4 * length ps
+  pub next : r ≡ top + 2 * length ps
   pub more : envOf img e' r ≡ with-params (map (fieldAt img) ps) (envOf img e top)
   pub size : length e' ≡ length e
 

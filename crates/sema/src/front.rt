@@ -26,7 +26,7 @@ pub enum Judged {
 // The tables and the analysis of an image that passed the check.
 fn behind_check(
     tables: &mut [usize; tables::SIZE],
-    names: &mut [usize; 2048],
+    names: &mut [usize; records::NAMES],
     image: &[u8],
 ) -> Judged
     requires { ⌜ Passed (now image) ⌝ }
@@ -42,7 +42,7 @@ fn behind_check(
 // 01: image, analysis
 pub fn analysis(
     tables: &mut [usize; tables::SIZE],
-    names: &mut [usize; 2048],
+    names: &mut [usize; records::NAMES],
     image: &[u8],
 ) -> Judged
     ensures { λ r. ⌜ Judges (now (image .entry)) (analysed (now (image .entry))) (now (tables .exit)) r ⌝ }
@@ -54,7 +54,7 @@ pub fn analysis(
 }
 
 // 01: row 30. The analysis is over, so that its names serve once more as a table of fields.
-fn ambiguity(names: &mut [usize; 2048], image: &[u8], tables: &[usize]) -> Judged
+fn ambiguity(names: &mut [usize; records::NAMES], image: &[u8], tables: &[usize]) -> Judged
     requires { ⌜ Tabled (now image) (now tables) ⌝ }
     ensures { λ r. ⌜ r ≡ spotted (firstAmbiguous (contractAt (now (image .entry)))) ⌝ }
 {
@@ -65,7 +65,11 @@ fn ambiguity(names: &mut [usize; 2048], image: &[u8], tables: &[usize]) -> Judge
 }
 
 // 01: image, analysis, 30
-pub fn judge(tables: &mut [usize; tables::SIZE], names: &mut [usize; 2048], image: &[u8]) -> Judged
+pub fn judge(
+    tables: &mut [usize; tables::SIZE],
+    names: &mut [usize; records::NAMES],
+    image: &[u8],
+) -> Judged
     ensures { λ r. ⌜ Judges (now (image .entry)) (judged (now (image .entry))) (now (tables .exit)) r ⌝ }
 {
     let j = analysis(tables, names, image);

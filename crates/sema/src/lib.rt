@@ -453,7 +453,7 @@ fn analyze_let(
     d: usize,
     top: usize,
 ) -> After
-    requires { ⌜ (Tabled (now img) (now tables)) × (top + 4 ≤ length (now env)) ⌝ }
+    requires { ⌜ (Tabled (now img) (now tables)) × (top + 2 ≤ length (now env)) ⌝ }
     ensures { λ r. ⌜ ((R : Typ) → Step (now (img .entry)) (now (env .entry)) (now (env .exit)) top r R (stmtOf sLet d (now (img .entry)) at)) ⌝ }
 {
     let x = records::body(img, at);
@@ -474,7 +474,7 @@ fn analyze_list(
     top: usize,
     ret: Ty,
 ) -> After
-    requires { ⌜ (Tabled (now img) (now tables)) × (top + 4 * vars-stmts (bodyOf d (now img) at) ≤ length (now env)) ⌝ }
+    requires { ⌜ (Tabled (now img) (now tables)) × (top + 2 * vars-stmts (bodyOf d (now img) at) ≤ length (now env)) ⌝ }
     ensures { λ r. ⌜ Steps (now (img .entry)) (now (env .entry)) (now (env .exit)) top r (tyOf (now (img .entry)) ret) (bodyOf d (now (img .entry)) at) ⌝ }
 {
     let end = records::past(img, at);
@@ -511,7 +511,7 @@ fn analyze_else(
     top: usize,
     ret: Ty,
 ) -> After
-    requires { ⌜ (Tabled (now img) (now tables)) × (top + 4 * vars-stmts (elseOf d (now img) at end) ≤ length (now env)) ⌝ }
+    requires { ⌜ (Tabled (now img) (now tables)) × (top + 2 * vars-stmts (elseOf d (now img) at end) ≤ length (now env)) ⌝ }
     ensures { λ r. ⌜ Steps (now (img .entry)) (now (env .entry)) (now (env .exit)) top r (tyOf (now (img .entry)) ret) (elseOf d (now (img .entry)) at end) ⌝ }
 {
     if at < end {
@@ -531,7 +531,7 @@ fn analyze_if(
     top: usize,
     ret: Ty,
 ) -> After
-    requires { ⌜ (Tabled (now img) (now tables)) × (top + 4 * vars (stmtOf sIf d (now img) at) ≤ length (now env)) ⌝ }
+    requires { ⌜ (Tabled (now img) (now tables)) × (top + 2 * vars (stmtOf sIf d (now img) at) ≤ length (now env)) ⌝ }
     ensures { λ r. ⌜ Step (now (img .entry)) (now (env .entry)) (now (env .exit)) top r (tyOf (now (img .entry)) ret) (stmtOf sIf d (now (img .entry)) at) ⌝ }
 {
     let test = records::body(img, at);
@@ -561,7 +561,7 @@ fn analyze_while(
     top: usize,
     ret: Ty,
 ) -> After
-    requires { ⌜ (Tabled (now img) (now tables)) × (top + 4 * vars (stmtOf sWhile d (now img) at) ≤ length (now env)) ⌝ }
+    requires { ⌜ (Tabled (now img) (now tables)) × (top + 2 * vars (stmtOf sWhile d (now img) at) ≤ length (now env)) ⌝ }
     ensures { λ r. ⌜ Step (now (img .entry)) (now (env .entry)) (now (env .exit)) top r (tyOf (now (img .entry)) ret) (stmtOf sWhile d (now (img .entry)) at) ⌝ }
 {
     let test = records::body(img, at);
@@ -583,7 +583,7 @@ fn analyze_loop(
     top: usize,
     ret: Ty,
 ) -> After
-    requires { ⌜ (Tabled (now img) (now tables)) × (top + 4 * (suc (vars-stmts (bodyOf d (now img) at))) ≤ length (now env)) ⌝ }
+    requires { ⌜ (Tabled (now img) (now tables)) × (top + 2 * (suc (vars-stmts (bodyOf d (now img) at))) ≤ length (now env)) ⌝ }
     ensures { λ r. ⌜ Stepped (now (img .entry)) (now (env .entry)) (now (env .exit)) top (suc (vars-stmts (bodyOf d (now (img .entry)) at))) r (inLoop (contractAt (now (img .entry))) (tyOf (now (img .entry)) ret) (nameAt (now (img .entry)) x) (bodyOf d (now (img .entry)) at) (envOf (now (img .entry)) (now (env .entry)) top)) ⌝ }
 {
     let inner = lookup::push(env, img, top, x, Ty::U64);
@@ -604,7 +604,7 @@ fn analyze_for(
     top: usize,
     ret: Ty,
 ) -> After
-    requires { ⌜ (Tabled (now img) (now tables)) × (top + 4 * vars (stmtOf sFor d (now img) at) ≤ length (now env)) ⌝ }
+    requires { ⌜ (Tabled (now img) (now tables)) × (top + 2 * vars (stmtOf sFor d (now img) at) ≤ length (now env)) ⌝ }
     ensures { λ r. ⌜ Step (now (img .entry)) (now (env .entry)) (now (env .exit)) top r (tyOf (now (img .entry)) ret) (stmtOf sFor d (now (img .entry)) at) ⌝ }
 {
     let x = records::body(img, at);
@@ -642,7 +642,7 @@ fn analyze_stmt(
     top: usize,
     ret: Ty,
 ) -> After
-    requires { ⌜ (Tabled (now img) (now tables)) × (top + 4 * vars (stmtAt d (now img) at) ≤ length (now env)) ⌝ }
+    requires { ⌜ (Tabled (now img) (now tables)) × (top + 2 * vars (stmtAt d (now img) at) ≤ length (now env)) ⌝ }
     ensures { λ r. ⌜ Step (now (img .entry)) (now (env .entry)) (now (env .exit)) top r (tyOf (now (img .entry)) ret) (stmtAt d (now (img .entry)) at) ⌝ }
 {
     if d == 0 {
@@ -660,7 +660,7 @@ fn analyze_stmt(
 
 // 001: analyze_function, the parameters: the Fields of the List at `at`.
 fn push_params(env: &mut [usize], img: &[u8], at: usize) -> usize
-    requires { ⌜ 4 * length (placesIn 512 (now img) at) ≤ length (now env) ⌝ }
+    requires { ⌜ (2 * length (placesIn 512 (now img) at) ≤ length (now env)) × (length (now img) ≤ 65536) ⌝ }
     ensures { λ r. ⌜ Bound (now (img .entry)) (now (env .entry)) (now (env .exit)) 0 (placesIn 512 (now (img .entry)) at) r ⌝ }
 {
     let end = records::past(img, at);
@@ -681,7 +681,7 @@ fn push_params(env: &mut [usize], img: &[u8], at: usize) -> usize
 
 // 001: analyze_function, of the function at p.
 fn analyze_function(env: &mut [usize], img: &[u8], tables: &[usize], p: usize) -> Checked
-    requires { ⌜ (Tabled (now img) (now tables)) × (4 * names (functionAt (now img) p) ≤ length (now env)) ⌝ }
+    requires { ⌜ (Tabled (now img) (now tables)) × (2 * names (functionAt (now img) p) ≤ length (now env)) ⌝ }
     ensures { λ r. ⌜ (checkedOf (now (img .entry)) r ≡ function (contractAt (now (img .entry))) (functionAt (now (img .entry)) p)) × (length (now (env .exit)) ≡ length (now (env .entry))) ⌝ }
 {
     let params = records::past(img, records::body(img, p));
@@ -696,9 +696,9 @@ fn analyze_function(env: &mut [usize], img: &[u8], tables: &[usize], p: usize) -
     }
 }
 
-// 001: analyze, of an image that the check passed, with its tables: the functions in turn. `env` is for the names in scope: 512 of them, four cells each.
+// 001: analyze, of an image that the check passed, with its tables: the functions in turn. `env` is for the names in scope: 512 of them, two cells each.
 pub fn analyse_checked(env: &mut [usize], img: &[u8], tables: &[usize]) -> Checked
-    requires { ⌜ (Tabled (now img) (now tables)) × ((Passed (now img)) × (2048 ≤ length (now env))) ⌝ }
+    requires { ⌜ (Tabled (now img) (now tables)) × ((Passed (now img)) × (1025 ≤ length (now env))) ⌝ }
     ensures { λ r. ⌜ (checkedOf (now (img .entry)) r ≡ analysis (now (img .entry))) × (length (now (env .exit)) ≡ length (now (env .entry))) ⌝ }
 {
     let n = tables::function_count(tables);
@@ -755,6 +755,6 @@ pub fn analyse(image: &[u8]) -> Answer
     ensures { λ r. ⌜ r ≡ analyseOf (now (image .entry)) ⌝ }
 {
     let mut tables = [0usize; tables::SIZE];
-    let mut names = [0usize; 2048];
+    let mut names = [0usize; records::NAMES];
     front::answer_of(front::analysis(&mut tables, &mut names, image))
 }

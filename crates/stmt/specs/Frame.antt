@@ -7,24 +7,23 @@ use lib.ListN.{length, getD}
 use Rattle.rules.specs.Bytes.{nameAt}
 use Rattle.rules.specs.Emit.{with-name}
 use Rattle.tables.specs.Listed.{Tabled}
-use Rattle.expr.specs.Scope.{scopeIn}
+use Rattle.expr.specs.Scope.{regNo, scopeIn}
 
--- The tables are the image's, the image is as short as 01 allows, and there is room for k names more.
+-- The tables are the image's, and there is room for k names more.
 pub record Ready (img t s : List ℕ) (k : ℕ) : Type 0 where
   pub tabled : Tabled img t
-  pub small : length img ≤ 65536
   pub names : getD s 0 0 + k ≤ 512
-  pub size : 1537 ≤ length s
+  pub size : 1025 ≤ length s
 
 -- The names that were there stay as they are; behind them there are k more at most.
 pub record Frame (s s' : List ℕ) (k : ℕ) : Type 0 where
   pub least : getD s 0 0 ≤ getD s' 0 0
   pub most : getD s' 0 0 ≤ getD s 0 0 + k
-  pub kept : (i : ℕ) → 0 < i → i ≤ 3 * getD s 0 0 → getD s' i 0 ≡ getD s i 0
+  pub kept : (i : ℕ) → 0 < i → i ≤ 2 * getD s 0 0 → getD s' i 0 ≡ getD s i 0
 
 -- bind: one name more
 pub record Binds (img : List ℕ) (x r : ℕ) (s s' : List ℕ) : Type 0 where
   pub scope : scopeIn img s' ≡ with-name (nameAt img x) (r % 256) (scopeIn img s)
   pub frame : Frame s s' 1
   pub count : getD s' 0 0 ≡ getD s 0 0 + 1
-  pub reg : getD s' (3 * getD s 0 0 + 3) 0 ≡ r
+  pub reg : regNo s' (getD s 0 0) ≡ r % 256

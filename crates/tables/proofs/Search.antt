@@ -3,13 +3,13 @@
 --     Reached    the search stands at record k - 1
 --     Search     the same of whatever is listed at base
 --     older      the next record to look at is an earlier one
---     start, skip-key, skip-name, hit, miss     the search's first step, its steps and its two ends
+--     start, skip, hit, miss     the search's first step, its steps and its two ends
 -- Assumes nothing.
 use mathlib.Core.Bool.{Bool, true, false}
 use mathlib.Core.List.{List, [], _∷_}
 use mathlib.Core.Option.{Option, none, some}
 use mathlib.Core.Path.{_≡_, refl, sym, ap, _∙_, subst}
-use Prim.Native.Nat.{ℕ, zero, suc, _+_, _-_, _*_, _%_, _≤_, _<_}
+use Prim.Native.Nat.{ℕ, zero, suc, _+_, _-_, _%_, _≤_, _<_}
 use native.Mathlib.Omega.{arith}
 use lib.Dec.{eqb, ltb}
 use borrow.Author.Tests.{eqb-true, eqb-false, ltb-true, ltb-false}
@@ -18,6 +18,7 @@ use Rattle.rules.specs.Bytes.{pick, Name, eqName, nameAt}
 use Rattle.rules.specs.Tables.{orElse, last, last-index}
 use Rattle.rules.specs.Read.{nameIn}
 use Rattle.records.specs.Keys.{keyOf, differ}
+use Rattle.records.specs.Cells.{placeIn, numberIn}
 use Rattle.tables.specs.declared.Found.the-variants as found
 use Rattle.tables.specs.Listed.{bucketIn, Listed, Named, placeOf, indexOf}
 
@@ -60,27 +61,27 @@ module _ (img : List ℕ) (x : ℕ) where
   -- record k - 1 is of the bucket of the name at x, and no record from k on has that name
   pub record Reached (ps : List ℕ) (k : ℕ) : Type 0 where
     pub within : k ≤ length ps
-    pub same : 0 < k → bucketIn img ps (k - 1) ≡ keyOf (nameAt img x) % 31
+    pub same : 0 < k → bucketIn img ps (k - 1) ≡ keyOf (nameAt img x) % 61
     pub past : Later (nameIn img) (nameAt img x) ps k
 
-  elsewhere : (ps : List ℕ) (j : ℕ) → (bucketIn img ps j ≡ keyOf (nameAt img x) % 31 → ⊥) → eqName (nameIn img (getD ps j 0)) (nameAt img x) ≡ false
-  elsewhere ps j h = differ (nameIn img (getD ps j 0)) (nameAt img x) (λ e. h (ap (λ (m : ℕ). m % 31) e))
+  elsewhere : (ps : List ℕ) (j : ℕ) → (bucketIn img ps j ≡ keyOf (nameAt img x) % 61 → ⊥) → eqName (nameIn img (getD ps j 0)) (nameAt img x) ≡ false
+  elsewhere ps j h = differ (nameIn img (getD ps j 0)) (nameAt img x) (λ e. h (ap (λ (m : ℕ). m % 61) e))
 
 module _ (img t : List ℕ) (base x : ℕ) where
   abbrev pub Search : ℕ → Type 0
   Search k = (ps : List ℕ) → Listed img t base ps → Reached img x ps k
 
-  pub start : Search (getD t (base + 1 + keyOf (nameAt img x) % 31) 0)
+  pub start : Search (getD t (base + 1 + keyOf (nameAt img x) % 61) 0)
   start ps l =
-      let w = l .heads (keyOf (nameAt img x) % 31) (omega arith) in
+      let w = l .heads (keyOf (nameAt img x) % 61) (omega arith) in
       record { within = w .within; same = w .same; past = λ j a b. elsewhere img x ps j (w .others j a b) }
 
   module _ (k : ℕ) (some-left : k ≡ 0 → ⊥) where
-    pub older : (ps : List ℕ) → Listed img t base ps → k ≤ length ps → getD t (base + 32 + 3 * (k - 1) + 2) 0 < k
+    pub older : (ps : List ℕ) → Listed img t base ps → k ≤ length ps → numberIn (getD t (base + 62 + (k - 1)) 0) < k
     older ps l h = omega (arith, l .links (k - 1) (omega arith) .within)
 
     module _ (reached : Search k) where
-      skip : ((ps : List ℕ) → Listed img t base ps → eqName (nameIn img (getD ps (k - 1) 0)) (nameAt img x) ≡ false) → Search (getD t (base + 32 + 3 * (k - 1) + 2) 0)
+      pub skip : eqName (nameIn img (placeIn (getD t (base + 62 + (k - 1)) 0))) (nameAt img x) ≡ false → Search (numberIn (getD t (base + 62 + (k - 1)) 0))
       skip e ps l =
           let r = reached ps l in
           let w = l .links (k - 1) (omega (arith, r .within)) in
@@ -88,18 +89,12 @@ module _ (img t : List ℕ) (base x : ℕ) where
           record {
             within = omega (arith, w .within, r .within);
             same = λ h. w .same h ∙ s;
-            past = down (nameIn img) (nameAt img x) ps k (getD t (base + 32 + 3 * (k - 1) + 2) 0) (r .past) (e ps l)
+            past = down (nameIn img) (nameAt img x) ps k (numberIn (getD t (base + 62 + (k - 1)) 0)) (r .past) (rw (← l .places (k - 1) (omega (arith, r .within))) e)
                 (λ j a b. elsewhere img x ps j (λ q. w .others j a b (q ∙ sym s)));
           }
 
-      pub skip-key : (getD t (base + 32 + 3 * (k - 1)) 0 ≡ keyOf (nameAt img x) → ⊥) → Search (getD t (base + 32 + 3 * (k - 1) + 2) 0)
-      skip-key h = skip (λ ps l. differ (nameIn img (getD ps (k - 1) 0)) (nameAt img x) (λ e. h (l .keys (k - 1) (omega (arith, reached ps l .within)) ∙ e)))
-
-      pub skip-name : eqName (nameIn img (getD t (base + 32 + 3 * (k - 1) + 1) 0)) (nameAt img x) ≡ false → Search (getD t (base + 32 + 3 * (k - 1) + 2) 0)
-      skip-name e = skip (λ ps l. rw (← l .places (k - 1) (omega (arith, reached ps l .within))) e)
-
-      pub hit : eqName (nameIn img (getD t (base + 32 + 3 * (k - 1) + 1) 0)) (nameAt img x) ≡ true → (ps : List ℕ) → Listed img t base ps →
-          Named img x ps (found.At (k - 1) (getD t (base + 32 + 3 * (k - 1) + 1) 0))
+      pub hit : eqName (nameIn img (placeIn (getD t (base + 62 + (k - 1)) 0))) (nameAt img x) ≡ true → (ps : List ℕ) → Listed img t base ps →
+          Named img x ps (found.At (k - 1) (placeIn (getD t (base + 62 + (k - 1)) 0)))
       unfolding placeOf indexOf
       hit e ps l =
           let r = reached ps l in

@@ -1,5 +1,5 @@
-// Where the functions, structs and storage fields of an image stand, with the keys of their names: listed once, then searched from the newest.
-// A list starts at its base with the count and the heads of 31 buckets of keys; then the key, the place and the link of each record.
+// Where the functions, structs and storage fields of an image stand: listed once, then searched from the newest.
+// A list starts at its base with the count and the heads of 61 buckets of keys of names; then a cell for each record: its place with the link beside it.
 // A head is the last record of its bucket, a link the one before of the same bucket: its index + 1, 0 where there is none.
 ghost use mathlib.Core.Path.{_≡_};
 ghost use mathlib.Core.List.{List};
@@ -10,11 +10,11 @@ ghost use Rattle.tables.specs.Listed.{Listed, Above, Cleared, Tabled, Na
 
 pub const FUNCTIONS: usize = 0;
 
-pub const STRUCTS: usize = 800;
+pub const STRUCTS: usize = 318;
 
-pub const STORAGE: usize = 1024;
+pub const STORAGE: usize = 444;
 
-pub const SIZE: usize = 1824;
+pub const SIZE: usize = 762;
 
 // The last record of a name: its index in its List and its place.
 pub enum Found {
@@ -24,11 +24,11 @@ pub enum Found {
 
 // All buckets of the list at base are empty.
 fn clear_heads(t: &mut [usize], base: usize)
-    requires { ⌜ base + 32 ≤ length (now t) ⌝ }
-    ensures { λ _. ⌜ Cleared (now (t .entry)) (now (t .exit)) base 31 ⌝ }
+    requires { ⌜ base + 62 ≤ length (now t) ⌝ }
+    ensures { λ _. ⌜ Cleared (now (t .entry)) (now (t .exit)) base 61 ⌝ }
 {
     let mut b: usize = 0;
-    while b < 31 {
+    while b < 61 {
         t[base + 1 + b] = 0;
         b += 1;
     }
@@ -36,7 +36,7 @@ fn clear_heads(t: &mut [usize], base: usize)
 
 // Lists the records of the List at l, `most` of them at most.
 fn fill_list(t: &mut [usize], base: usize, most: usize, img: &[u8], l: usize)
-    requires { ⌜ base + 32 + 3 * most ≤ length (now t) ⌝ }
+    requires { ⌜ (base + 62 + most ≤ length (now t)) × ((most ≤ 256) × (length (now img) ≤ 65536)) ⌝ }
     ensures { λ _. ⌜ Listed (now (img .entry)) (now (t .exit)) base (placesIn most (now (img .entry)) l) × Above (now (t .entry)) (now (t .exit)) base ⌝ }
 {
     clear_heads(t, base);
@@ -45,11 +45,8 @@ fn fill_list(t: &mut [usize], base: usize, most: usize, img: &[u8], l: usize)
     let mut n = 0;
     while n < most && p < end {
         let key = records::name_key(img, records::body(img, p));
-        let head = base + 1 + key % 31;
-        let at = base + 32 + 3 * n;
-        t[at] = key;
-        t[at + 1] = p;
-        t[at + 2] = t[head];
+        let head = base + 1 + key % 61;
+        t[base + 62 + n] = records::beside(img, p, t[head]);
         t[head] = n + 1;
         p = records::past(img, p);
         n += 1;
@@ -59,6 +56,7 @@ fn fill_list(t: &mut [usize], base: usize, most: usize, img: &[u8], l: usize)
 
 // 01: a Contract is its Name, then the Lists of its storage, its structs and its functions.
 pub fn fill_tables(t: &mut [usize; SIZE], img: &[u8])
+    requires { ⌜ length (now img) ≤ 65536 ⌝ }
     ensures { λ _. ⌜ Tabled (now (img .entry)) (now (t .exit)) ⌝ }
 {
     let storage = records::past(img, records::body(img, 0));
@@ -69,23 +67,21 @@ pub fn fill_tables(t: &mut [usize; SIZE], img: &[u8])
     fill_list(t, STORAGE, 256, img, storage);
 }
 
-// The last record of the list at base whose name is the one at x, sought in its key's bucket. Names are read only where keys are equal.
+// The last record of the list at base whose name is the one at x, sought in its key's bucket.
 fn last_named(img: &[u8], t: &[usize], base: usize, x: usize) -> Found
     requires { ⌜ ((ps : List ℕ) × Listed (now img) (now t) base ps) ⌝ }
     ensures { λ r. ⌜ ((ps : List ℕ) → Listed (now (img .entry)) (now (t .entry)) base ps → Named (now (img .entry)) x ps r) ⌝ }
 {
     let key = records::name_key(img, x);
-    let mut k = t[base + 1 + key % 31];
+    let mut k = t[base + 1 + key % 61];
     while k != 0 {
         k -= 1;
-        let at = base + 32 + 3 * k;
-        if t[at] == key {
-            let p = t[at + 1];
-            if records::same_name(img, records::body(img, p), x) {
-                return Found::At(k, p);
-            }
+        let cell = t[base + 62 + k];
+        let p = records::place_in(cell);
+        if records::same_name(img, records::body(img, p), x) {
+            return Found::At(k, p);
         }
-        k = t[at + 2];
+        k = records::number_in(cell);
     }
     Found::Nothing
 }
@@ -122,12 +118,12 @@ fn cell(t: &[usize], i: usize) -> usize
 }
 
 // The place at index i of the list at base.
-fn place_in(t: &[usize], base: usize, i: usize) -> usize
-    requires { ⌜ base ≤ 1024 ⌝ }
+fn place_at(t: &[usize], base: usize, i: usize) -> usize
+    requires { ⌜ base ≤ 444 ⌝ }
     ensures { λ r. ⌜ ((img ps : List ℕ) → Listed img (now (t .entry)) base ps → i < length ps → r ≡ getD ps i 0) ⌝ }
 {
     if i < t.len() {
-        cell(t, base + 32 + 3 * i + 1)
+        records::place_in(cell(t, base + 62 + i))
     } else {
         0
     }
@@ -151,12 +147,12 @@ pub fn struct_count(t: &[usize]) -> usize
 pub fn function_place(t: &[usize], i: usize) -> usize
     ensures { λ r. ⌜ ((img : List ℕ) → Tabled img (now (t .entry)) → i < length (functionsIn img) → r ≡ getD (functionsIn img) i 0) ⌝ }
 {
-    place_in(t, FUNCTIONS, i)
+    place_at(t, FUNCTIONS, i)
 }
 
 // The place of the struct at index i.
 pub fn struct_place(t: &[usize], i: usize) -> usize
     ensures { λ r. ⌜ ((img : List ℕ) → Tabled img (now (t .entry)) → i < length (structsIn img) → r ≡ getD (structsIn img) i 0) ⌝ }
 {
-    place_in(t, STRUCTS, i)
+    place_at(t, STRUCTS, i)
 }

@@ -36,7 +36,7 @@ body-requires-3 : tie.Need-body-requires-3 Inv-loop μ-loop
 body-requires-3 c κs = search needs
 
 bind-requires : tie.Need-bind-requires Inv-loop μ-loop
-bind-requires c κs = (omega (arith, c .before .before .before .before .before .loop .inv .count, c .before .before .before .before .loop-test .taken), omega (arith, c .before .before .before .before .before .loop .inv .size, c .before .before .before .before .before .before .before .before .before .before .before .before .pre .1))
+bind-requires c κs = (omega (arith, c .before .before .before .before .before .loop .inv .count, c .before .before .before .before .loop-test .taken), (omega (arith, c .before .before .before .before .before .loop .inv .size, c .before .before .before .before .before .before .before .before .before .before .before .before .pre .1 .0), c .before .before .before .before .before .before .before .before .before .before .before .before .pre .1 .1))
 
 past-requires-3 : tie.Need-past-requires-3 Inv-loop μ-loop
 past-requires-3 c κs = search needs

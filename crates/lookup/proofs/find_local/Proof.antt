@@ -1,14 +1,14 @@
 -- find_local meets its contract.
 -- Assumes nothing.
-use Prim.Native.Nat.{_≤_}
-use Rattle.lookup.proofs.Scopes.{find-hit, find-miss, find-none, find-other}
-use Rattle.lookup.specs.Answers.{envOf, gotOf}
-use Rattle.rules.specs.Bytes.{nameAt}
-use Rattle.rules.specs.Types.{find}
-use borrow.Author.Needs.{needs}
 use mathlib.Core.Option.{some}
 use mathlib.Core.Path.{_∙_, _≡_, ap, refl, sym}
+use Prim.Native.Nat.{_≤_}
 use native.Mathlib.Omega.{arith}
+use Rattle.rules.specs.Bytes.{nameAt}
+use Rattle.rules.specs.Types.{find}
+use Rattle.lookup.specs.Answers.{envOf, gotOf}
+use Rattle.lookup.proofs.Scopes.{find-hit, find-miss, find-none, find-other}
+use borrow.Author.Needs.{needs}
 use Rattle.lookup.proofs.find_local.Statement.{statement}
 use Rattle.lookup.proofs.find_local.Tie as tie
 
@@ -33,33 +33,27 @@ add-cell c = omega arith
 cell-requires-2 : tie.Need-cell-requires-2 Inv-loop μ-loop
 cell-requires-2 c κs = search needs
 
+place-in-requires : tie.Need-place-in-requires Inv-loop μ-loop
+place-in-requires c κs = search needs
+
 same-name-requires : tie.Need-same-name-requires Inv-loop μ-loop
 same-name-requires c κs = search needs
 
-add-cell-2 : tie.Need-add-cell-2 Inv-loop μ-loop
-add-cell-2 c = omega arith
-
-cell-requires-3 : tie.Need-cell-requires-3 Inv-loop μ-loop
-cell-requires-3 c κs = search needs
-
-add-cell-3 : tie.Need-add-cell-3 Inv-loop μ-loop
-add-cell-3 c = omega arith
-
-cell-requires-4 : tie.Need-cell-requires-4 Inv-loop μ-loop
-cell-requires-4 c κs = search needs
+number-in-requires : tie.Need-number-in-requires Inv-loop μ-loop
+number-in-requires c κs = search needs
 
 type-of-requires : tie.Need-type-of-requires Inv-loop μ-loop
 type-of-requires c κs = search needs
 
 returns : tie.Need-returns Inv-loop μ-loop
 unfolding gotOf
-returns c = ap some (rw (c .before .before .cell3 .ensures, c .before .cell4 .ensures) at (c .type-of .ensures (c .before .before .before .before .before .before .before .before .before .before .before .before .before .args .img .now))) ∙ sym (c .before .before .before .before .before .before .before .before .before .loop .inv .1 ∙ find-hit (c .before .before .before .before .before .before .before .before .before .before .before .before .before .args .img .now) (c .before .before .before .before .before .before .before .before .before .before .before .before .before .args .env .now) (nameAt (c .before .before .before .before .before .before .before .before .before .before .before .before .before .args .img .now) (c .before .before .before .before .before .before .before .before .before .before .before .before .before .args .x)) (c .before .before .before .before .before .before .before .before .before .loop .k) (c .before .before .before .before .before .before .before .before .loop-test .taken) (sym (c .before .before .before .before .before .before .before .cell .ensures) ∙ c .before .before .before .before .before .before .if1 .taken ∙ c .before .before .before .before .before .before .before .before .before .before .name-key .ensures) (sym (rw (c .before .before .before .before .before .cell2 .ensures) at (c .before .before .before .before .same-name .ensures)) ∙ c .before .before .before .if2 .taken))
+returns c = ap some (rw (c .before .number-in .ensures, c .before .before .before .before .before .cell2 .ensures) at (c .type-of .ensures (c .before .before .before .before .before .before .before .before .before .before .before .before .before .args .img .now))) ∙ sym (c .before .before .before .before .before .before .before .before .before .loop .inv .1 ∙ find-hit (c .before .before .before .before .before .before .before .before .before .before .before .before .before .args .img .now) (c .before .before .before .before .before .before .before .before .before .before .before .before .before .args .env .now) (nameAt (c .before .before .before .before .before .before .before .before .before .before .before .before .before .args .img .now) (c .before .before .before .before .before .before .before .before .before .before .before .before .before .args .x)) (c .before .before .before .before .before .before .before .before .before .loop .k) (c .before .before .before .before .before .before .before .before .loop-test .taken) (sym (c .before .before .before .before .before .before .before .cell .ensures) ∙ c .before .before .before .before .before .before .if1 .taken ∙ c .before .before .before .before .before .before .before .before .before .before .name-key .ensures) (sym (rw (c .before .before .before .before .place-in .ensures, c .before .before .before .before .before .cell2 .ensures) at (c .before .before .before .same-name .ensures)) ∙ c .before .before .if2 .taken))
 
 loop-less : tie.Need-loop-less Inv-loop μ-loop
 loop-less c = search needs
 
 loop-again : tie.Need-loop-again Inv-loop μ-loop
-loop-again c = (omega arith, c .before .before .before .before .before .before .loop .inv .1 ∙ find-miss (c .before .before .before .before .before .before .before .before .before .before .args .img .now) (c .before .before .before .before .before .before .before .before .before .before .args .env .now) (nameAt (c .before .before .before .before .before .before .before .before .before .before .args .img .now) (c .before .before .before .before .before .before .before .before .before .before .args .x)) (c .before .before .before .before .before .before .loop .k) (c .before .before .before .before .before .loop-test .taken) (sym (rw (c .before .before .cell2 .ensures) at (c .before .same-name .ensures)) ∙ c .if2 .left))
+loop-again c = (omega arith, c .before .before .before .before .before .before .before .loop .inv .1 ∙ find-miss (c .before .before .before .before .before .before .before .before .before .before .before .args .img .now) (c .before .before .before .before .before .before .before .before .before .before .before .args .env .now) (nameAt (c .before .before .before .before .before .before .before .before .before .before .before .args .img .now) (c .before .before .before .before .before .before .before .before .before .before .before .args .x)) (c .before .before .before .before .before .before .before .loop .k) (c .before .before .before .before .before .before .loop-test .taken) (sym (rw (c .before .before .place-in .ensures, c .before .before .before .cell2 .ensures) at (c .before .same-name .ensures)) ∙ c .if2 .left))
 
 loop-less-2 : tie.Need-loop-less-2 Inv-loop μ-loop
 loop-less-2 c = search needs
@@ -82,11 +76,9 @@ find-local-spec =
     cell-requires
     add-cell
     cell-requires-2
+    place-in-requires
     same-name-requires
-    add-cell-2
-    cell-requires-3
-    add-cell-3
-    cell-requires-4
+    number-in-requires
     type-of-requires
     returns
     loop-less

@@ -267,7 +267,7 @@ unfolding stmt stmtAs vars typedOf
 analyze-if-returns-3 t c = first-bad _ (sym (ap (typedOf (c .before .before .before .before .before .before .before .before .before .before .before .before .args .img .now)) (c .before .t .given .1)) ∙ rw (c .before .before .before .before .before .before .before .before .body .ensures .0) at (c .before .before .before .analyze-expr .ensures))
 
 abbrev analyze-list-Inv-loop : analyze-list-lts.InvT-loop
-analyze-list-Inv-loop env₀ img tables at d top ret end p₀ k₀ t₀ env p k t = (t + 4 * vars-stmts (stmtsFrom k (stmtAt d img) img p end) ≤ length env) × ((length env ≡ length env₀) × ((e2 : List ℕ) (r : After) → Steps img env e2 t r (tyOf img ret) (stmtsFrom k (stmtAt d img) img p end) → Steps img env₀ e2 top r (tyOf img ret) (bodyAt (stmtAt d img) img at)))
+analyze-list-Inv-loop env₀ img tables at d top ret end p₀ k₀ t₀ env p k t = (t + 2 * vars-stmts (stmtsFrom k (stmtAt d img) img p end) ≤ length env) × ((length env ≡ length env₀) × ((e2 : List ℕ) (r : After) → Steps img env e2 t r (tyOf img ret) (stmtsFrom k (stmtAt d img) img p end) → Steps img env₀ e2 top r (tyOf img ret) (bodyAt (stmtAt d img) img at)))
 
 abbrev analyze-list-μ-loop : analyze-list-lts.MeasureT-loop
 analyze-list-μ-loop env₀ img tables at d top ret end p₀ k₀ t₀ env p k t = k
@@ -325,7 +325,7 @@ unfolding stmts vars-stmts
 analyze-list-returns-3 t c = c .before .loop .inv .1 .1 _ _ (rw (stmts-zero (stmtAt (c .before .before .before .before .before .before .before .args .d) (c .before .before .before .before .before .before .before .args .img .now)) (c .before .before .before .before .before .before .before .args .img .now) (c .before .loop .k) (c .before .loop .p) (c .before .before .before .past .result) (c .loop-test .left)) (still-ok refl))
 
 analyze-loop-push-requires : (t : ℕ) → analyze-loop-lts.Need-push-requires (analyze-loop-told t) (analyze-loop-at t) analyze-loop.Post
-analyze-loop-push-requires t c κs = omega (arith, c .before .before .before .before .pre .1 .1)
+analyze-loop-push-requires t c κs = (omega (arith, c .before .before .before .before .pre .1 .1), c .before .before .before .before .pre .1 .0 .small)
 
 analyze-loop-analyze-list-requires : (t : ℕ) → analyze-loop-lts.Need-analyze-list-requires (analyze-loop-told t) (analyze-loop-at t) analyze-loop.Post
 analyze-loop-analyze-list-requires t c κs = (omega arith, (c .before .before .before .before .before .before .before .before .pre .1 .0, omega (arith, c .before .before .before .before .before .before .before .before .pre .1 .1, c .before .before .before .push .ensures .next, c .before .before .before .push .ensures .size)))

@@ -26,7 +26,7 @@ past-requires-4 : tie.Need-past-requires-4
 past-requires-4 c κs = search needs
 
 push-params-requires : tie.Need-push-params-requires
-push-params-requires c κs = rw (c .before .before .before .before .past .ensures .0, c .before .before .before .before .before .body .ensures .0) (omega (arith, names-at (c .before .before .before .before .before .before .before .before .before .args .img .now) (c .before .before .before .before .before .before .before .before .before .args .p), c .before .before .before .before .before .before .before .before .before .pre .1))
+push-params-requires c κs = (rw (c .before .before .before .before .past .ensures .0, c .before .before .before .before .before .body .ensures .0) (omega (arith, names-at (c .before .before .before .before .before .before .before .before .before .args .img .now) (c .before .before .before .before .before .before .before .before .before .args .p), c .before .before .before .before .before .before .before .before .before .pre .1)), c .before .before .before .before .before .before .before .before .before .pre .0 .small)
 
 user-ret-requires : tie.Need-user-ret-requires
 user-ret-requires c κs = search needs

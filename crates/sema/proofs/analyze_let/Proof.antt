@@ -23,7 +23,7 @@ enum-known-t : tie.Need-enum-known-t
 enum-known-t c = search needs
 
 push-requires : tie.Need-push-requires
-push-requires c κs = c .before .before .before .before .before .before .before .before .before .before .before .pre .1
+push-requires c κs = (c .before .before .before .before .before .before .before .before .before .before .before .pre .1, c .before .before .before .before .before .before .before .before .before .before .before .pre .0 .small)
 
 enum-known-t-2 : tie.Need-enum-known-t-2
 enum-known-t-2 c = search needs

@@ -14,7 +14,7 @@ use Rattle.sema.proofs.push_params.Statement.{statement}
 use Rattle.sema.proofs.push_params.Tie as tie
 
 abbrev Inv-loop : tie.InvT-loop
-Inv-loop env₀ img at end p₀ k₀ top₀ env p k top = (top + 4 * length (placesFrom k img p end) ≤ length env) × ((length env ≡ length env₀) × ((e2 : List ℕ) (r : ℕ) → Bound img env e2 top (placesFrom k img p end) r → Bound img env₀ e2 0 (placesIn 512 img at) r))
+Inv-loop env₀ img at end p₀ k₀ top₀ env p k top = (top + 2 * length (placesFrom k img p end) ≤ length env) × ((length env ≡ length env₀) × ((e2 : List ℕ) (r : ℕ) → Bound img env e2 top (placesFrom k img p end) r → Bound img env₀ e2 0 (placesIn 512 img at) r))
 
 abbrev μ-loop : tie.MeasureT-loop
 μ-loop env₀ img at end p₀ k₀ top₀ env p k top = k
@@ -26,7 +26,7 @@ body-requires : tie.Need-body-requires Inv-loop μ-loop
 body-requires c κs = search needs
 
 loop-holds : tie.Need-loop-holds Inv-loop μ-loop
-loop-holds c = (rw (c .body .ensures .0, c .before .past .ensures .0) (omega (arith, c .before .before .before .before .pre)), (refl, λ e2 r s. rw (c .body .ensures .0, c .before .past .ensures .0) at s))
+loop-holds c = (rw (c .body .ensures .0, c .before .past .ensures .0) (omega (arith, c .before .before .before .before .pre .0)), (refl, λ e2 r s. rw (c .body .ensures .0, c .before .past .ensures .0) at s))
 
 same-length : tie.Need-same-length Inv-loop μ-loop
 same-length c = search needs
@@ -41,7 +41,7 @@ body-requires-2 : tie.Need-body-requires-2 Inv-loop μ-loop
 body-requires-2 c κs = search needs
 
 push-requires : tie.Need-push-requires Inv-loop μ-loop
-push-requires c κs = omega (arith, ap length (places-more (c .before .before .before .before .before .before .before .before .before .before .args .img .now) (c .before .before .before .before .before .loop .k) (c .before .before .before .before .before .loop .p) (c .before .before .before .before .before .before .before .past .result) (c .before .before .before .before .loop-test .taken) (c .before .before .before .if1 .left)), c .before .before .before .before .before .loop .inv .0)
+push-requires c κs = (omega (arith, ap length (places-more (c .before .before .before .before .before .before .before .before .before .before .args .img .now) (c .before .before .before .before .before .loop .k) (c .before .before .before .before .before .loop .p) (c .before .before .before .before .before .before .before .past .result) (c .before .before .before .before .loop-test .taken) (c .before .before .before .if1 .left)), c .before .before .before .before .before .loop .inv .0), c .before .before .before .before .before .before .before .before .before .before .pre .1)
 
 past-requires-2 : tie.Need-past-requires-2 Inv-loop μ-loop
 past-requires-2 c κs = search needs

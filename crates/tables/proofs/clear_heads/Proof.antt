@@ -10,10 +10,10 @@ use Rattle.tables.proofs.clear_heads.Statement.{statement}
 use Rattle.tables.proofs.clear_heads.Tie as tie
 
 abbrev Inv-loop : tie.InvT-loop
-Inv-loop t₀ base b₀ t b = (b ≤ 31) × Cleared t₀ t base b
+Inv-loop t₀ base b₀ t b = (b ≤ 61) × Cleared t₀ t base b
 
 abbrev μ-loop : tie.MeasureT-loop
-μ-loop t₀ base b₀ t b = 31 - b
+μ-loop t₀ base b₀ t b = 61 - b
 
 loop-holds : tie.Need-loop-holds Inv-loop μ-loop
 loop-holds c = (omega arith, clear-none (c .args .t .now) (c .args .base))
@@ -43,7 +43,7 @@ same-length : tie.Need-same-length Inv-loop μ-loop
 same-length c = search needs
 
 returns : tie.Need-returns Inv-loop μ-loop
-returns c = let z : c .before .loop .b ≡ 31 = omega (arith, c .before .loop .inv .0) in rw z at (c .before .loop .inv .1)
+returns c = let z : c .before .loop .b ≡ 61 = omega (arith, c .before .loop .inv .0) in rw z at (c .before .loop .inv .1)
 
 pub clear-heads-spec : {M : Type 1} → statement M
 clear-heads-spec =

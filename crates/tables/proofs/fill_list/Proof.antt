@@ -2,13 +2,14 @@
 -- Assumes nothing.
 use mathlib.Core.Logic.{⊎-elim}
 use mathlib.Core.Path.{_≡_}
-use Prim.Native.Nat.{_+_, _-_, _*_, _%_, _≤_}
+use Prim.Native.Nat.{_+_, _-_, _%_, _≤_}
 use native.Mathlib.Omega.{arith}
 use borrow.Author.Tests.{ltb-true, ltb-false}
 use lib.ListN.{length-set}
 use Rattle.rules.specs.Read.{nameIn, placesIn, placesFrom}
 use Rattle.records.specs.Keys.{keyOf}
-use Rattle.tables.proofs.Fill.{Filled, stored, begin, put, done, places-zero, places-end, places-more}
+use Rattle.records.specs.Places.{places-zero, places-end, places-more}
+use Rattle.tables.proofs.Fill.{Filled, stored, begin, put, done}
 use borrow.Author.Needs.{needs}
 use Rattle.tables.proofs.fill_list.Statement.{statement}
 use Rattle.tables.proofs.fill_list.Tie as tie
@@ -43,53 +44,35 @@ add-head c = search needs
 add-head-2 : tie.Need-add-head-2 Inv-loop μ-loop
 add-head-2 c = search needs
 
-add-at : tie.Need-add-at Inv-loop μ-loop
-add-at c = search needs
+mul-beside : tie.Need-mul-beside Inv-loop μ-loop
+mul-beside c = search needs
 
-mul-at : tie.Need-mul-at Inv-loop μ-loop
-mul-at c = search needs
+slice-read-beside : tie.Need-slice-read-beside Inv-loop μ-loop
+slice-read-beside c = omega (arith, (c .before .before .before .before .before .loop .inv .1 .above .size), (c .before .before .before .before .before .before .before .before .before .before .clear-heads .ensures .above .size))
 
-add-at-2 : tie.Need-add-at-2 Inv-loop μ-loop
-add-at-2 c = search needs
+beside-requires : tie.Need-beside-requires Inv-loop μ-loop
+beside-requires c κs = (c .before .before .before .before .before .before .before .before .before .before .before .before .before .before .pre .1 .1, omega (arith, c .before .before .before .before .before .loop .inv .1 .heads (c .before .name-key .result % 61) (omega arith) .within, c .before .before .before .before .before .loop .inv .0, c .before .before .before .before .before .before .before .before .before .before .before .before .before .before .pre .1 .0))
+
+add-t : tie.Need-add-t Inv-loop μ-loop
+add-t c = search needs
+
+add-t-2 : tie.Need-add-t-2 Inv-loop μ-loop
+add-t-2 c = search needs
 
 mul-t : tie.Need-mul-t Inv-loop μ-loop
 mul-t c = search needs
 
 slice-write-t : tie.Need-slice-write-t Inv-loop μ-loop
-slice-write-t c = omega (arith, c .before .before .before .before .loop .inv .1 .above .size, c .before .before .before .before .before .before .before .before .before .clear-heads .ensures .above .size)
+slice-write-t c = omega (arith, (c .before .before .before .before .before .before .loop .inv .1 .above .size), (c .before .before .before .before .before .before .before .before .before .before .before .clear-heads .ensures .above .size))
 
-add-t : tie.Need-add-t Inv-loop μ-loop
-add-t c = search needs
+add-t-3 : tie.Need-add-t-3 Inv-loop μ-loop
+add-t-3 c = search needs
 
 mul-t-2 : tie.Need-mul-t-2 Inv-loop μ-loop
 mul-t-2 c = search needs
 
 slice-write-t-2 : tie.Need-slice-write-t-2 Inv-loop μ-loop
-slice-write-t-2 c = simp length-set (omega (arith, c .before .before .before .before .loop .inv .1 .above .size, c .before .before .before .before .before .before .before .before .before .clear-heads .ensures .above .size))
-
-mul-t-3 : tie.Need-mul-t-3 Inv-loop μ-loop
-mul-t-3 c = search needs
-
-slice-read-t : tie.Need-slice-read-t Inv-loop μ-loop
-slice-read-t c = simp length-set (omega (arith, c .before .before .before .before .before .loop .inv .1 .above .size, c .before .before .before .before .before .before .before .before .before .before .clear-heads .ensures .above .size))
-
-add-t-2 : tie.Need-add-t-2 Inv-loop μ-loop
-add-t-2 c = search needs
-
-mul-t-4 : tie.Need-mul-t-4 Inv-loop μ-loop
-mul-t-4 c = search needs
-
-slice-write-t-3 : tie.Need-slice-write-t-3 Inv-loop μ-loop
-slice-write-t-3 c = simp length-set (omega (arith, c .before .before .before .before .before .loop .inv .1 .above .size, c .before .before .before .before .before .before .before .before .before .before .clear-heads .ensures .above .size))
-
-add-t-3 : tie.Need-add-t-3 Inv-loop μ-loop
-add-t-3 c = search needs
-
-mul-t-5 : tie.Need-mul-t-5 Inv-loop μ-loop
-mul-t-5 c = search needs
-
-slice-write-t-4 : tie.Need-slice-write-t-4 Inv-loop μ-loop
-slice-write-t-4 c = simp length-set (omega (arith, c .before .before .before .before .before .loop .inv .1 .above .size, c .before .before .before .before .before .before .before .before .before .before .clear-heads .ensures .above .size))
+slice-write-t-2 c = simp length-set (omega (arith, (c .before .before .before .before .before .before .loop .inv .1 .above .size), (c .before .before .before .before .before .before .before .before .before .before .before .clear-heads .ensures .above .size)))
 
 past-requires-2 : tie.Need-past-requires-2 Inv-loop μ-loop
 past-requires-2 c κs = search needs
@@ -101,23 +84,29 @@ loop-less : tie.Need-loop-less Inv-loop μ-loop
 loop-less c = omega arith
 
 loop-again : tie.Need-loop-again Inv-loop μ-loop
-loop-again c = (
-  omega arith,
-  rw (c .past2 .ensures .0, c .before .before .name-key .ensures, c .before .before .before .body2 .ensures .0)
-      (put (c .before .before .before .before .before .before .before .before .before .before .before .before .before .before .before .args .img .now) (c .before .before .before .before .before .before .before .before .before .before .before .clear-heads .last .0) (c .before .before .before .before .before .before .before .before .before .before .before .before .before .before .before .args .base) (placesIn (c .before .before .before .before .before .before .before .before .before .before .before .before .before .before .before .args .most) (c .before .before .before .before .before .before .before .before .before .before .before .before .before .before .before .args .img .now) (c .before .before .before .before .before .before .before .before .before .before .before .before .before .before .before .args .l)) (c .before .before .before .before .before .before .loop .t) _ _ (c .before .before .before .before .before .before .loop .n) (c .before .before .before .before .before .before .loop .p) _
-      (places-more (c .before .before .before .before .before .before .before .before .before .before .before .before .before .before .before .args .img .now) (c .before .before .before .before .before .before .before .before .before .before .before .before .before .before .before .args .most - c .before .before .before .before .before .before .loop .n) (c .before .before .before .before .before .before .before .before .before .before .before .before .before .before .before .args .most - (c .before .before .before .before .before .before .loop .n + 1)) (c .before .before .before .before .before .before .loop .p) (c .before .before .before .before .before .before .before .before .past .result) (omega arith) (ltb-true _ _ (c .before .before .before .before .if1 .taken)))
-      (c .before .before .before .before .before .before .loop .inv .1)
-      (stored (c .before .before .before .before .before .before .loop .t) (c .before .before .before .before .before .before .before .before .before .before .before .before .before .before .before .args .base + 32 + 3 * c .before .before .before .before .before .before .loop .n) (c .before .before .before .before .before .before .before .before .before .before .before .before .before .before .before .args .base + 1 + keyOf (nameIn (c .before .before .before .before .before .before .before .before .before .before .before .before .before .before .before .args .img .now) (c .before .before .before .before .before .before .loop .p)) % 31) (keyOf (nameIn (c .before .before .before .before .before .before .before .before .before .before .before .before .before .before .before .args .img .now) (c .before .before .before .before .before .before .loop .p))) (c .before .before .before .before .before .before .loop .p) (c .before .before .before .before .before .before .loop .n + 1) (omega arith) (omega (arith, c .before .before .before .before .before .before .loop .inv .1 .above .size, c .before .before .before .before .before .before .before .before .before .before .before .clear-heads .ensures .above .size)))),
-)
+loop-again c =
+    let img = c .before .before .before .before .before .before .before .before .before .before .before .before .before .before .before .before .args .img .now in
+    let p = c .before .before .before .before .before .before .before .loop .p in
+    let fewer : c .before .before .before .before .before .before .before .before .before .before .before .before .before .before .before .before .args .most - (c .before .before .before .before .before .before .before .loop .n + 1) ≡ c .before .before .before .before .before .before .before .before .before .before .before .before .before .before .before .before .args .most - c .before .before .before .before .before .before .before .loop .n - 1 = omega arith in
+    let before = ltb-true _ _ (c .before .before .before .before .before .if1 .taken) in (
+      omega arith,
+      rw (c .past2 .ensures .0, c .before .before .before .name-key .ensures, c .before .before .before .before .body2 .ensures .0, fewer)
+          (put img (c .before .before .before .before .before .before .before .before .before .before .before .before .clear-heads .last .0) (c .before .before .before .before .before .before .before .before .before .before .before .before .before .before .before .before .args .base) (placesIn (c .before .before .before .before .before .before .before .before .before .before .before .before .before .before .before .before .args .most) img (c .before .before .before .before .before .before .before .before .before .before .before .before .before .before .before .before .args .l)) (c .before .before .before .before .before .before .before .loop .t) _ _ (c .before .before .before .before .before .before .before .loop .n) p _
+          (places-more img (c .before .before .before .before .before .before .before .before .before .before .before .before .before .before .before .before .args .most - c .before .before .before .before .before .before .before .loop .n) p (c .before .before .before .before .before .before .before .before .before .past .result) (λ z. omega arith) before)
+          (c .before .before .before .before .before .before .before .loop .inv .1)
+          (stored img (c .before .before .before .before .before .before .before .loop .t) (c .before .before .before .before .before .before .before .before .before .before .before .before .before .before .before .before .args .base + 62 + c .before .before .before .before .before .before .before .loop .n) (c .before .before .before .before .before .before .before .before .before .before .before .before .before .before .before .before .args .base + 1 + keyOf (nameIn img p) % 61) p (c .before .beside .result) (c .before .before .before .before .before .before .before .loop .n + 1)
+          (omega arith) (omega (arith, c .before .before .before .before .before .before .before .loop .inv .1 .above .size, c .before .before .before .before .before .before .before .before .before .before .before .before .clear-heads .ensures .above .size)) (omega (arith, before, c .before .before .before .before .before .before .before .before .before .past .ensures .1))
+          (rw (c .before .before .before .name-key .ensures, c .before .before .before .before .body2 .ensures .0) at (c .before .beside .ensures)))),
+    )
 
-mul-t-6 : tie.Need-mul-t-6 Inv-loop μ-loop
-mul-t-6 c = search needs
+mul-t-3 : tie.Need-mul-t-3 Inv-loop μ-loop
+mul-t-3 c = search needs
 
-slice-write-t-5 : tie.Need-slice-write-t-5 Inv-loop μ-loop
-slice-write-t-5 c = omega (arith, c .before .loop .inv .1 .above .size, c .before .before .before .before .before .before .clear-heads .ensures .above .size)
+slice-write-t-3 : tie.Need-slice-write-t-3 Inv-loop μ-loop
+slice-write-t-3 c = omega (arith, (c .before .loop .inv .1 .above .size), (c .before .before .before .before .before .before .clear-heads .ensures .above .size))
 
 same-length : tie.Need-same-length Inv-loop μ-loop
-same-length c = simp length-set (omega (arith, c .before .loop .inv .1 .above .size, c .before .before .before .before .before .before .clear-heads .ensures .above .size))
+same-length c = simp length-set (omega (arith, (c .before .loop .inv .1 .above .size), (c .before .before .before .before .before .before .clear-heads .ensures .above .size)))
 
 returns : tie.Need-returns Inv-loop μ-loop
 returns c = done (c .before .before .before .before .before .before .before .before .before .before .args .img .now) (c .before .before .before .before .before .before .clear-heads .last .0) (c .before .before .before .before .before .before .before .before .before .before .args .base) (placesIn (c .before .before .before .before .before .before .before .before .before .before .args .most) (c .before .before .before .before .before .before .before .before .before .before .args .img .now) (c .before .before .before .before .before .before .before .before .before .before .args .l)) (c .before .loop .t) _ (c .before .loop .n) (c .before .before .before .before .before .before .before .before .before .before .args .t .now)
@@ -141,27 +130,21 @@ fill-list-spec =
     name-key-requires
     add-head
     add-head-2
-    add-at
-    mul-at
-    add-at-2
+    mul-beside
+    slice-read-beside
+    beside-requires
+    add-t
+    add-t-2
     mul-t
     slice-write-t
-    add-t
+    add-t-3
     mul-t-2
     slice-write-t-2
-    mul-t-3
-    slice-read-t
-    add-t-2
-    mul-t-4
-    slice-write-t-3
-    add-t-3
-    mul-t-5
-    slice-write-t-4
     past-requires-2
     add-n
     loop-less
     loop-again
-    mul-t-6
-    slice-write-t-5
+    mul-t-3
+    slice-write-t-3
     same-length
     returns)

@@ -38,11 +38,12 @@ returns c =
     let few-functions : length (functionsIn img) ≤ 256 = few 256 img (fourth img 0) in
     let few-structs : length (structsIn img) ≤ 64 = few 64 img (third img 0) in
     record {
+      small = c .before .before .before .before .before .before .before .before .before .before .before .pre;
       size = search needs;
-      functions = above img (c .before .before .fill-list2 .last .0) _ 0 1024 (functionsIn img) (omega arith) (c .fill-list3 .ensures .1)
-          (above img (c .before .before .before .before .fill-list .last .0) _ 0 800 (functionsIn img) (omega arith) (c .before .before .fill-list2 .ensures .1)
+      functions = above img (c .before .before .fill-list2 .last .0) _ 0 444 (functionsIn img) (omega arith) (c .fill-list3 .ensures .1)
+          (above img (c .before .before .before .before .fill-list .last .0) _ 0 318 (functionsIn img) (omega arith) (c .before .before .fill-list2 .ensures .1)
           (rw (c .before .before .before .before .before .before .past3 .ensures .0, c .before .before .before .before .before .before .before .past2 .ensures .0, c .before .before .before .before .before .before .before .before .past .ensures .0, c .before .before .before .before .before .before .before .before .before .body .ensures .0) at (c .before .before .before .before .fill-list .ensures .0)));
-      structs = above img (c .before .before .fill-list2 .last .0) _ 800 1024 (structsIn img) (omega arith) (c .fill-list3 .ensures .1)
+      structs = above img (c .before .before .fill-list2 .last .0) _ 318 444 (structsIn img) (omega arith) (c .fill-list3 .ensures .1)
           (rw (c .before .before .before .before .before .before .before .past2 .ensures .0, c .before .before .before .before .before .before .before .before .past .ensures .0, c .before .before .before .before .before .before .before .before .before .body .ensures .0) at (c .before .before .fill-list2 .ensures .0));
       storage = rw (c .before .before .before .before .before .before .before .before .past .ensures .0, c .before .before .before .before .before .before .before .before .before .body .ensures .0) at (c .fill-list3 .ensures .0);
     }

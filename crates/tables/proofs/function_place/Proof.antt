@@ -4,11 +4,11 @@ use borrow.Author.Needs.{needs}
 use Rattle.tables.proofs.function_place.Statement.{statement}
 use Rattle.tables.proofs.function_place.Tie as tie
 
-place-in-requires : tie.Need-place-in-requires
-place-in-requires c κs = search needs
+place-at-requires : tie.Need-place-at-requires
+place-at-requires c κs = search needs
 
 returns : tie.Need-returns
-returns c = λ img h. c .place-in .ensures img _ (h .functions)
+returns c = λ img h. c .place-at .ensures img _ (h .functions)
 
 pub function-place-spec : {M : Type 1} → statement M
-function-place-spec = tie.close (tie.spec place-in-requires returns)
+function-place-spec = tie.close (tie.spec place-at-requires returns)

@@ -58,7 +58,7 @@ use Rattle.entries.specs.declared.build.Made.{Made}
 use Rattle.entries.specs.Entries.{blank, numbersOf}
 use Rattle.entries.specs.Rows.{entriesOf}
 use Rattle.entries.specs.Endings.{Left, Fitting, accepted, refused-one}
-use Rattle.entries.proofs.Arrays.{word, words, big, Words, plainly, Parts, into, back}
+use Rattle.entries.proofs.Arrays.{word, words, Words, plainly, Parts, into, back}
 use Rattle.entries.proofs.Entry as T
 use Rattle.entries.proofs.build.Made as P
 use Rattle.entries.proofs.build.Made.Laws as P′
@@ -183,7 +183,7 @@ module _ {M : Type 1} (𝓤 : URA M) (H : Heap 𝓤) (A : Atoms 𝓤) (W : Given
   goes-clear = qed W (TokT ∷ ‵ OwnT ∷ []) ∵ nothing ! $ move ! (2 ∷ 0 ∷ []) $ fjoin ! $ move ! (1 ∷ 0 ∷ []) $ join ! $ frame ! $ done !
 
   abbrev Locals : (l₀ l₁ l₂ l₃ l₄ l₅ l₆ l₇ l₈ l₉ l₁₀ l₁₁ l₁₂ l₁₃ l₁₄ l₁₅ l₁₆ l₁₇ l₁₈ l₁₉ l₂₀ : ℕ) → Env 𝓤 H
-  Locals l₀ l₁ l₂ l₃ l₄ l₅ l₆ l₇ l₈ l₉ l₁₀ l₁₁ l₁₂ l₁₃ l₁₄ l₁₅ l₁₆ l₁₇ l₁₈ l₁₉ l₂₀ = (B′.mir, l₀) ∷ (imageTy, l₁) ∷ (codeTy, l₂) ∷ (tableTy, l₃) ∷ (P′.mir, l₄) ∷ (words 1824, l₅) ∷ (words 256, l₆) ∷ (wordRef, l₇) ∷ (sliceTy wordRef, l₈) ∷ (word, l₉) ∷ (tyBool, l₁₀) ∷ (tyUnit, l₁₁) ∷ (entryRef, l₁₂) ∷ (sliceTy entryRef, l₁₃) ∷ (tyRef erased imm (words 1824), l₁₄) ∷ (sliceTy sharedRef, l₁₅) ∷ (tyRef erased imm (words 256), l₁₆) ∷ (sliceTy sharedRef, l₁₇) ∷ (tyUnit, l₁₈) ∷ (entryRef, l₁₉) ∷ (sliceTy entryRef, l₂₀) ∷ []
+  Locals l₀ l₁ l₂ l₃ l₄ l₅ l₆ l₇ l₈ l₉ l₁₀ l₁₁ l₁₂ l₁₃ l₁₄ l₁₅ l₁₆ l₁₇ l₁₈ l₁₉ l₂₀ = (B′.mir, l₀) ∷ (imageTy, l₁) ∷ (codeTy, l₂) ∷ (tableTy, l₃) ∷ (P′.mir, l₄) ∷ (words 762, l₅) ∷ (words 256, l₆) ∷ (wordRef, l₇) ∷ (sliceTy wordRef, l₈) ∷ (word, l₉) ∷ (tyBool, l₁₀) ∷ (tyUnit, l₁₁) ∷ (entryRef, l₁₂) ∷ (sliceTy entryRef, l₁₃) ∷ (tyRef erased imm (words 762), l₁₄) ∷ (sliceTy sharedRef, l₁₅) ∷ (tyRef erased imm (words 256), l₁₆) ∷ (sliceTy sharedRef, l₁₇) ∷ (tyUnit, l₁₈) ∷ (entryRef, l₁₉) ∷ (sliceTy entryRef, l₂₀) ∷ []
 
   -- behind `work`: what it made, the code's last list
   module _ (m : Made) (zs : List ℕ) (gm : Is P.the-row m (P′.lowered m ∷ [])) (lz : length zs ≡ length (xc .now)) (left : Left rules (xi .now) (xc .now) ys (m .answer) zs (m .firsts) (m .tables))
@@ -194,13 +194,13 @@ module _ {M : Type 1} (𝓤 : URA M) (H : Heap 𝓤) (A : Atoms 𝓤) (W : Given
     gk : m .n < 2 ^ 64
     gk = LL.owed P.the-type P′.the-laws m _ gm .1 .0 .1
 
-    gs : Words 1824 (m .tables)
-    gs = plainly 1824 (m .tables) _ (LL.owed P.the-type P′.the-laws m _ gm .1 .1 .0)
+    gs : Words 762 (m .tables)
+    gs = plainly 762 (m .tables) _ (LL.owed P.the-type P′.the-laws m _ gm .1 .1 .0)
 
     gf : Words 256 (m .firsts)
     gf = plainly 256 (m .firsts) _ (LL.owed P.the-type P′.the-laws m _ gm .1 .1 .1 .0)
 
-    ls : length (m .tables) ≡ 1824
+    ls : length (m .tables) ≡ 762
     ls = gs .1 .0 .1
 
     lf : length (m .firsts) ≡ 256
@@ -264,10 +264,10 @@ module _ {M : Type 1} (𝓤 : URA M) (H : Heap 𝓤) (A : Atoms 𝓤) (W : Given
       Tail ws = TokIC ∷ TokT ∷ ‵ OwnI ∷ ‵ (finally u64 (xc .name) zs) ∷ ‵ (finally T.the-row (xt .name) ws)
           ∷ ‵ (froom (sliceTy entryRef) l₂₀ 0) ∷ ‵ (fdies (sliceTy entryRef) l₂₀) ∷ ‵ (froom entryRef l₁₉ 0) ∷ ‵ (fdies entryRef l₁₉) ∷ ‵ (froom tyUnit l₁₈ 0) ∷ ‵ (fdies tyUnit l₁₈)
           ∷ ‵ (froom (sliceTy sharedRef) l₁₇ 0) ∷ ‵ (fdies (sliceTy sharedRef) l₁₇) ∷ ‵ (froom (tyRef erased imm (words 256)) l₁₆ 0) ∷ ‵ (fdies (tyRef erased imm (words 256)) l₁₆) ∷ ‵ (froom (sliceTy sharedRef) l₁₅ 0) ∷ ‵ (fdies (sliceTy sharedRef) l₁₅)
-          ∷ ‵ (froom (tyRef erased imm (words 1824)) l₁₄ 0) ∷ ‵ (fdies (tyRef erased imm (words 1824)) l₁₄) ∷ ‵ (froom (sliceTy entryRef) l₁₃ 0) ∷ ‵ (fdies (sliceTy entryRef) l₁₃) ∷ ‵ (froom entryRef l₁₂ 0) ∷ ‵ (fdies entryRef l₁₂)
+          ∷ ‵ (froom (tyRef erased imm (words 762)) l₁₄ 0) ∷ ‵ (fdies (tyRef erased imm (words 762)) l₁₄) ∷ ‵ (froom (sliceTy entryRef) l₁₃ 0) ∷ ‵ (fdies (sliceTy entryRef) l₁₃) ∷ ‵ (froom entryRef l₁₂ 0) ∷ ‵ (fdies entryRef l₁₂)
           ∷ ‵ (froom tyUnit l₁₁ 0) ∷ ‵ (fdies tyUnit l₁₁) ∷ ‵ (froom tyBool l₁₀ 0) ∷ ‵ (fdies tyBool l₁₀) ∷ ‵ (froom word l₉ 0) ∷ ‵ (fdies word l₉)
           ∷ ‵ (froom (sliceTy wordRef) l₈ 0) ∷ ‵ (fdies (sliceTy wordRef) l₈) ∷ ‵ (froom wordRef l₇ 0) ∷ ‵ (fdies wordRef l₇) ∷ ‵ (froom (words 256) l₆ 0) ∷ ‵ (fdies (words 256) l₆)
-          ∷ ‵ (froom (words 1824) l₅ 0) ∷ ‵ (fdies (words 1824) l₅) ∷ ‵ (fat fullShare P′.mir l₄ 0 (P′.lowered m)) ∷ ‵ (fdies P′.mir l₄) ∷ ‵ (froom tableTy l₃ 0) ∷ ‵ (fdies tableTy l₃)
+          ∷ ‵ (froom (words 762) l₅ 0) ∷ ‵ (fdies (words 762) l₅) ∷ ‵ (fat fullShare P′.mir l₄ 0 (P′.lowered m)) ∷ ‵ (fdies P′.mir l₄) ∷ ‵ (froom tableTy l₃ 0) ∷ ‵ (fdies tableTy l₃)
           ∷ ‵ (froom codeTy l₂ 0) ∷ ‵ (fdies codeTy l₂) ∷ ‵ (froom imageTy l₁ 0) ∷ ‵ (fdies imageTy l₁) ∷ ‵ (froom B′.mir l₀ 0) ∷ ‵ (fdies B′.mir l₀) ∷ []
 
       ends : (ws : List Entry) → length ws ≡ length ys → Built rules (xi .now) (xc .now) (numbersOf ys) (m .answer) zs (numbersOf ws) → Sq W (Tail ws) (runs C Λ En piece.t-7 (atRet En Post))
@@ -282,28 +282,28 @@ module _ {M : Type 1} (𝓤 : URA M) (H : Heap 𝓤) (A : Atoms 𝓤) (W : Given
       Mid = TokIC ∷ ‵ (finally u64 (xc .name) zs) ∷ ‵ OwnI ∷ TokT ∷ ‵ OwnT
           ∷ ‵ (froom (sliceTy entryRef) l₂₀ 0) ∷ ‵ (fdies (sliceTy entryRef) l₂₀) ∷ ‵ (froom entryRef l₁₉ 0) ∷ ‵ (fdies entryRef l₁₉) ∷ ‵ (froom tyUnit l₁₈ 0) ∷ ‵ (fdies tyUnit l₁₈)
           ∷ ‵ (froom (sliceTy sharedRef) l₁₇ 0) ∷ ‵ (fdies (sliceTy sharedRef) l₁₇) ∷ ‵ (froom (tyRef erased imm (words 256)) l₁₆ 0) ∷ ‵ (fdies (tyRef erased imm (words 256)) l₁₆) ∷ ‵ (froom (sliceTy sharedRef) l₁₅ 0) ∷ ‵ (fdies (sliceTy sharedRef) l₁₅)
-          ∷ ‵ (froom (tyRef erased imm (words 1824)) l₁₄ 0) ∷ ‵ (fdies (tyRef erased imm (words 1824)) l₁₄) ∷ ‵ (froom (sliceTy entryRef) l₁₃ 0) ∷ ‵ (fdies (sliceTy entryRef) l₁₃) ∷ ‵ (froom entryRef l₁₂ 0) ∷ ‵ (fdies entryRef l₁₂)
+          ∷ ‵ (froom (tyRef erased imm (words 762)) l₁₄ 0) ∷ ‵ (fdies (tyRef erased imm (words 762)) l₁₄) ∷ ‵ (froom (sliceTy entryRef) l₁₃ 0) ∷ ‵ (fdies (sliceTy entryRef) l₁₃) ∷ ‵ (froom entryRef l₁₂ 0) ∷ ‵ (fdies entryRef l₁₂)
           ∷ ‵ (froom tyUnit l₁₁ 0) ∷ ‵ (fdies tyUnit l₁₁) ∷ ‵ (fat fullShare tyBool l₁₀ 0 (vbool (eqb (m .answer .refusal) 0))) ∷ ‵ (fdies tyBool l₁₀) ∷ ‵ (froom word l₉ 0) ∷ ‵ (fdies word l₉)
           ∷ ‵ (froom (sliceTy wordRef) l₈ 0) ∷ ‵ (fdies (sliceTy wordRef) l₈) ∷ ‵ (froom wordRef l₇ 0) ∷ ‵ (fdies wordRef l₇) ∷ ‵ (froom (words 256) l₆ 0) ∷ ‵ (fdies (words 256) l₆)
-          ∷ ‵ (froom (words 1824) l₅ 0) ∷ ‵ (fdies (words 1824) l₅) ∷ ‵ (fat fullShare P′.mir l₄ 0 (P′.lowered m)) ∷ ‵ (fdies P′.mir l₄) ∷ ‵ (fat fullShare tableTy l₃ 0 tv) ∷ ‵ (fdies tableTy l₃)
+          ∷ ‵ (froom (words 762) l₅ 0) ∷ ‵ (fdies (words 762) l₅) ∷ ‵ (fat fullShare P′.mir l₄ 0 (P′.lowered m)) ∷ ‵ (fdies P′.mir l₄) ∷ ‵ (fat fullShare tableTy l₃ 0 tv) ∷ ‵ (fdies tableTy l₃)
           ∷ ‵ (fat fullShare codeTy l₂ 0 cv) ∷ ‵ (fdies codeTy l₂) ∷ ‵ (fat fullShare imageTy l₁ 0 iv) ∷ ‵ (fdies imageTy l₁) ∷ ‵ (froom B′.mir l₀ 0) ∷ ‵ (fdies B′.mir l₀) ∷ []
 
       forks : Sq W Mid (runs C Λ En piece.s-6 (anyQ (afterSeq 𝓤 H (Wp 𝓤 H C Λ En piece.t-7 (atReturn 𝓤 H En Post)) (atReturn 𝓤 H En Post))))
       forks = branches ! (load ! (from ! (stop !)) (look ! 25 refl))
           -- accepted: the arrays are lent to `fill`
           (λ zero. let fit = accepted rules (xi .now) (xc .now) ys (m .answer) zs (m .firsts) (m .tables) left (eqb→eq (m .answer .refusal) 0 zero) (m .n) counted in
-          assigns ! (of-opd ! (load ! (from ! (fld ! refl (stop !))) (look-in ! 37 (sub ! 2 refl (whole !))))) (from ! (stop !)) (init ! 35 refl (array-lawful 𝓤 H A W usize (uint-lawful 𝓤 H A W w64) 1824 .typed (m .tables) _ gs .0)) $
+          assigns ! (of-opd ! (load ! (from ! (fld ! refl (stop !))) (look-in ! 37 (sub ! 2 refl (whole !))))) (from ! (stop !)) (init ! 35 refl (array-lawful 𝓤 H A W usize (uint-lawful 𝓤 H A W w64) 762 .typed (m .tables) _ gs .0)) $
           assigns ! (of-opd ! (load ! (from ! (fld ! refl (stop !))) (look-in ! 37 (sub ! 3 refl (whole !))))) (from ! (stop !)) (init ! 33 refl (array-lawful 𝓤 H A W usize (uint-lawful 𝓤 H A W w64) 256 .typed (m .firsts) _ gf .0)) $
           assigns ! (addr ! (from ! (fld ! refl (hop ! (look-in ! 39 (sub ! 0 refl (whole !))) (stop !))))) (from ! (stop !)) (init ! 21 refl (tt, tt)) $
           assigns ! (agg ! (and-then ! (load ! (from ! (stop !)) (look ! 21 refl)) (and-then ! (load ! (from ! (fld ! refl (stop !))) (look-in ! 39 (sub ! 1 refl (whole !)))) (no-more !)))) (from ! (stop !)) (init ! 19 refl (tt, (tt, (record { fits = gt .0 }, tt)))) $
           assigns ! (addr ! (from ! (stop !))) (from ! (stop !)) (init ! 17 refl (tt, tt)) $
-          assigns ! (agg ! (and-then ! (load ! (from ! (stop !)) (look ! 17 refl)) (and-then ! (big ! (record { fits = lit< tt })) (no-more !)))) (from ! (stop !)) (init ! 15 refl (tt, (tt, (record { fits = lit< tt }, tt)))) $
+          assigns ! (agg ! (and-then ! (load ! (from ! (stop !)) (look ! 17 refl)) (and-then ! (lit ! tt) (no-more !)))) (from ! (stop !)) (init ! 15 refl (tt, (tt, (record { fits = lit< tt }, tt)))) $
           rewrite ! 15 (λ (k : ℕ). ‵ (fat fullShare (sliceTy sharedRef) l₁₅ 0 (sliceVal (l₅, 0) k))) (sym ls) refl $
           assigns ! (addr ! (from ! (stop !))) (from ! (stop !)) (init ! 13 refl (tt, tt)) $
           assigns ! (agg ! (and-then ! (load ! (from ! (stop !)) (look ! 13 refl)) (and-then ! (lit ! tt) (no-more !)))) (from ! (stop !)) (init ! 11 refl (tt, (tt, (record { fits = lit< tt }, tt)))) $
           rewrite ! 11 (λ (k : ℕ). ‵ (fat fullShare (sliceTy sharedRef) l₁₇ 0 (sliceVal (l₆, 0) k))) (sym lf) refl $
-          move ! (35 ∷ []) $ use1 W (‵ (Parts 𝓤 H A W 1824 l₅ (m .tables) ls)) (into 𝓤 H A W 1824 l₅ (m .tables) ls gs) $ lft-new ! tt (λ α. move ! (1 ∷ []) $
-          use1 W (later (some (λ (γ : GName). ‵ (ShrSlice (named 2) (α ∷ []) usize .own (record { ptr = (l₅, 0); name = γ; now = m .tables }) (sliceVal (l₅, 0) (length (m .tables)) ∷ [])) ⊛ ‵ (flent (α ∷ []) (Parts 𝓤 H A W 1824 l₅ (m .tables) ls)))))
+          move ! (35 ∷ []) $ use1 W (‵ (Parts 𝓤 H A W 762 l₅ (m .tables) ls)) (into 𝓤 H A W 762 l₅ (m .tables) ls gs) $ lft-new ! tt (λ α. move ! (1 ∷ []) $
+          use1 W (later (some (λ (γ : GName). ‵ (ShrSlice (named 2) (α ∷ []) usize .own (record { ptr = (l₅, 0); name = γ; now = m .tables }) (sliceVal (l₅, 0) (length (m .tables)) ∷ [])) ⊛ ‵ (flent (α ∷ []) (Parts 𝓤 H A W 762 l₅ (m .tables) ls)))))
           (lends-shr-slice 𝓤 H A W usize (named 2) (α ∷ []) fullShare (m .tables) l₅ 0 rs) $ await ! tt $ pick ! (λ γ. split ! $
           -- [tables'; the lender's part; α; the tokens; the last code; image's; the token of table; table's; _20; …]
           move ! (36 ∷ []) $ use1 W (‵ (Parts 𝓤 H A W 256 l₆ (m .firsts) lf)) (into 𝓤 H A W 256 l₆ (m .firsts) lf gf) $ lft-new ! tt (λ β. move ! (1 ∷ []) $
@@ -326,7 +326,7 @@ module _ {M : Type 1} (𝓤 : URA M) (H : Heap 𝓤) (A : Atoms 𝓤) (W : Given
           move ! (2 ∷ []) $ split ! $ move ! (1 ∷ []) $ peeks ! unit (Is unit) (shows 𝓤 H A unit) u (w ∷ []) (λ is.
           land-last ! (from ! (stop !)) (init ! 27 refl (nothing-lawful 𝓤 H A W .typed u _ is .0)) $ exec ! C Λ En piece.t-7 (atRet En Post) $
           -- both lifetimes are ended, and the arrays taken back
-          move ! (1 ∷ []) $ split ! $ move ! (1 ∷ []) $ split ! $ move ! (1 ∷ []) $ split ! $ lft-end ! tt $ move ! (0 ∷ 10 ∷ []) $ lent-back ! tt $ use1 W (‵ (froom (words 1824) l₅ 0)) (back 𝓤 H A W 1824 l₅ (m .tables) ls) $
+          move ! (1 ∷ []) $ split ! $ move ! (1 ∷ []) $ split ! $ move ! (1 ∷ []) $ split ! $ lft-end ! tt $ move ! (0 ∷ 10 ∷ []) $ lent-back ! tt $ use1 W (‵ (froom (words 762) l₅ 0)) (back 𝓤 H A W 762 l₅ (m .tables) ls) $
           move ! (1 ∷ []) $ split ! $ lft-end ! tt $ move ! (0 ∷ 10 ∷ []) $ lent-back ! tt $ use1 W (‵ (froom (words 256) l₆ 0)) (back 𝓤 H A W 256 l₆ (m .firsts) lf) $
           -- [_6; true; _5; image's token; table's; the unit's; the last table; …; image's; the token of code; the last code; _20; …]
           move ! (3 ∷ 9 ∷ []) $ join ! $ move ! (4 ∷ 2 ∷ []) $ join ! $
@@ -369,10 +369,10 @@ module _ {M : Type 1} (𝓤 : URA M) (H : Heap 𝓤) (A : Atoms 𝓤) (W : Given
       Ready = TokIC ∷ ‵ OwnI ∷ ‵ OwnC ∷ ‵ OwnI ∷ TokT ∷ ‵ OwnT
           ∷ ‵ (froom (sliceTy entryRef) l₂₀ 0) ∷ ‵ (fdies (sliceTy entryRef) l₂₀) ∷ ‵ (froom entryRef l₁₉ 0) ∷ ‵ (fdies entryRef l₁₉) ∷ ‵ (froom tyUnit l₁₈ 0) ∷ ‵ (fdies tyUnit l₁₈)
           ∷ ‵ (froom (sliceTy sharedRef) l₁₇ 0) ∷ ‵ (fdies (sliceTy sharedRef) l₁₇) ∷ ‵ (froom (tyRef erased imm (words 256)) l₁₆ 0) ∷ ‵ (fdies (tyRef erased imm (words 256)) l₁₆) ∷ ‵ (froom (sliceTy sharedRef) l₁₅ 0) ∷ ‵ (fdies (sliceTy sharedRef) l₁₅)
-          ∷ ‵ (froom (tyRef erased imm (words 1824)) l₁₄ 0) ∷ ‵ (fdies (tyRef erased imm (words 1824)) l₁₄) ∷ ‵ (froom (sliceTy entryRef) l₁₃ 0) ∷ ‵ (fdies (sliceTy entryRef) l₁₃) ∷ ‵ (froom entryRef l₁₂ 0) ∷ ‵ (fdies entryRef l₁₂)
+          ∷ ‵ (froom (tyRef erased imm (words 762)) l₁₄ 0) ∷ ‵ (fdies (tyRef erased imm (words 762)) l₁₄) ∷ ‵ (froom (sliceTy entryRef) l₁₃ 0) ∷ ‵ (fdies (sliceTy entryRef) l₁₃) ∷ ‵ (froom entryRef l₁₂ 0) ∷ ‵ (fdies entryRef l₁₂)
           ∷ ‵ (froom tyUnit l₁₁ 0) ∷ ‵ (fdies tyUnit l₁₁) ∷ ‵ (froom tyBool l₁₀ 0) ∷ ‵ (fdies tyBool l₁₀) ∷ ‵ (fat fullShare word l₉ 0 (vint w64 (length ys))) ∷ ‵ (fdies word l₉)
           ∷ ‵ (fat fullShare (sliceTy wordRef) l₈ 0 cv) ∷ ‵ (fdies (sliceTy wordRef) l₈) ∷ ‵ (fat fullShare wordRef l₇ 0 (vptr (xc .ptr .0) (xc .ptr .1))) ∷ ‵ (fdies wordRef l₇) ∷ ‵ (froom (words 256) l₆ 0) ∷ ‵ (fdies (words 256) l₆)
-          ∷ ‵ (froom (words 1824) l₅ 0) ∷ ‵ (fdies (words 1824) l₅) ∷ ‵ (froom P′.mir l₄ 0) ∷ ‵ (fdies P′.mir l₄) ∷ ‵ (fat fullShare tableTy l₃ 0 tv) ∷ ‵ (fdies tableTy l₃)
+          ∷ ‵ (froom (words 762) l₅ 0) ∷ ‵ (fdies (words 762) l₅) ∷ ‵ (froom P′.mir l₄ 0) ∷ ‵ (fdies P′.mir l₄) ∷ ‵ (fat fullShare tableTy l₃ 0 tv) ∷ ‵ (fdies tableTy l₃)
           ∷ ‵ (fat fullShare codeTy l₂ 0 cv) ∷ ‵ (fdies codeTy l₂) ∷ ‵ (fat fullShare imageTy l₁ 0 iv) ∷ ‵ (fdies imageTy l₁) ∷ ‵ (froom B′.mir l₀ 0) ∷ ‵ (fdies B′.mir l₀) ∷ []
 
       works : Sq W Ready (runs C Λ Here piece.t-4 (atRet Here Post))
@@ -397,10 +397,10 @@ module _ {M : Type 1} (𝓤 : URA M) (H : Heap 𝓤) (A : Atoms 𝓤) (W : Given
       Start = (‵ (flft κ₀ q₀) ⊛ ‵ (flft κ₁ q₁) ⊛ ‵ (flft κ₂ q₂) ⊛ ‵ ftrue) ∷ ‵ (owns (ShrSlice (named 0) κ₀ u8 ∷ MutSlice (named 1) κ₁ u64 ∷ MutSlice (named 2) κ₂ T.the-row ∷ []) a at)
           ∷ ‵ (froom (sliceTy entryRef) l₂₀ 0) ∷ ‵ (fdies (sliceTy entryRef) l₂₀) ∷ ‵ (froom entryRef l₁₉ 0) ∷ ‵ (fdies entryRef l₁₉) ∷ ‵ (froom tyUnit l₁₈ 0) ∷ ‵ (fdies tyUnit l₁₈)
           ∷ ‵ (froom (sliceTy sharedRef) l₁₇ 0) ∷ ‵ (fdies (sliceTy sharedRef) l₁₇) ∷ ‵ (froom (tyRef erased imm (words 256)) l₁₆ 0) ∷ ‵ (fdies (tyRef erased imm (words 256)) l₁₆) ∷ ‵ (froom (sliceTy sharedRef) l₁₅ 0) ∷ ‵ (fdies (sliceTy sharedRef) l₁₅)
-          ∷ ‵ (froom (tyRef erased imm (words 1824)) l₁₄ 0) ∷ ‵ (fdies (tyRef erased imm (words 1824)) l₁₄) ∷ ‵ (froom (sliceTy entryRef) l₁₃ 0) ∷ ‵ (fdies (sliceTy entryRef) l₁₃) ∷ ‵ (froom entryRef l₁₂ 0) ∷ ‵ (fdies entryRef l₁₂)
+          ∷ ‵ (froom (tyRef erased imm (words 762)) l₁₄ 0) ∷ ‵ (fdies (tyRef erased imm (words 762)) l₁₄) ∷ ‵ (froom (sliceTy entryRef) l₁₃ 0) ∷ ‵ (fdies (sliceTy entryRef) l₁₃) ∷ ‵ (froom entryRef l₁₂ 0) ∷ ‵ (fdies entryRef l₁₂)
           ∷ ‵ (froom tyUnit l₁₁ 0) ∷ ‵ (fdies tyUnit l₁₁) ∷ ‵ (froom tyBool l₁₀ 0) ∷ ‵ (fdies tyBool l₁₀) ∷ ‵ (froom word l₉ 0) ∷ ‵ (fdies word l₉)
           ∷ ‵ (froom (sliceTy wordRef) l₈ 0) ∷ ‵ (fdies (sliceTy wordRef) l₈) ∷ ‵ (froom wordRef l₇ 0) ∷ ‵ (fdies wordRef l₇) ∷ ‵ (froom (words 256) l₆ 0) ∷ ‵ (fdies (words 256) l₆)
-          ∷ ‵ (froom (words 1824) l₅ 0) ∷ ‵ (fdies (words 1824) l₅) ∷ ‵ (froom P′.mir l₄ 0) ∷ ‵ (fdies P′.mir l₄) ∷ ‵ (fat fullShare tableTy l₃ 0 tv) ∷ ‵ (fdies tableTy l₃)
+          ∷ ‵ (froom (words 762) l₅ 0) ∷ ‵ (fdies (words 762) l₅) ∷ ‵ (froom P′.mir l₄ 0) ∷ ‵ (fdies P′.mir l₄) ∷ ‵ (fat fullShare tableTy l₃ 0 tv) ∷ ‵ (fdies tableTy l₃)
           ∷ ‵ (fat fullShare codeTy l₂ 0 cv) ∷ ‵ (fdies codeTy l₂) ∷ ‵ (fat fullShare imageTy l₁ 0 iv) ∷ ‵ (fdies imageTy l₁) ∷ ‵ (froom B′.mir l₀ 0) ∷ ‵ (fdies B′.mir l₀) ∷ []
 
       starts : Sq W Start (runs C Λ Here piece.t-1 (atRet Here Post))

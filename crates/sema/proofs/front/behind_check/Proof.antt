@@ -4,12 +4,13 @@ use mathlib.Core.Path.{_∙_, ap, sym}
 use native.Mathlib.Omega.{arith}
 use Rattle.lookup.specs.Answers.{checkedOf}
 use Rattle.sema.proofs.Fronts.{passed-fine, passed-unfit}
+use Rattle.sema.proofs.Functions.{small}
 use borrow.Author.Needs.{needs}
 use Rattle.sema.proofs.front.behind_check.Statement.{statement}
 use Rattle.sema.proofs.front.behind_check.Tie as tie
 
 fill-tables-requires : tie.Need-fill-tables-requires
-fill-tables-requires c κs = search needs
+fill-tables-requires c κs = small _ (c .before .before .pre)
 
 analyse-checked-requires : tie.Need-analyse-checked-requires
 analyse-checked-requires c κs = (c .before .before .before .fill-tables .ensures, (c .before .before .before .before .before .before .pre, omega arith))

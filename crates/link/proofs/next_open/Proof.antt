@@ -1,0 +1,86 @@
+-- `link::next_open` meets its contract: in both loops the words so far are closed.
+-- Assumes nothing.
+use Prim.Native.Nat.{_-_}
+use native.Mathlib.Omega.{arith}
+use borrow.Author.Tests.{ltb-true, not-true}
+use Rattle.link.specs.Closed.{Shut, Closed, none-yet, pass, next}
+use borrow.Author.Needs.{needs}
+use Rattle.link.proofs.next_open.Statement.{statement}
+use Rattle.link.proofs.next_open.Tie as tie
+
+abbrev Inv-loop : tie.InvT-loop
+Inv-loop code from end i₀ i = Closed (Shut code) from end i
+
+abbrev μ-loop : tie.MeasureT-loop
+μ-loop code from end i₀ i = end - i
+
+abbrev Inv-loop2 : tie.InvT-loop2
+Inv-loop2 code from end i₀ i = Closed (Shut code) from end i
+
+abbrev μ-loop2 : tie.MeasureT-loop2
+μ-loop2 code from end i₀ i = end - i
+
+loop-holds : tie.Need-loop-holds Inv-loop μ-loop Inv-loop2 μ-loop2
+loop-holds c = none-yet (c .before .pre .0)
+
+sub-loop : tie.Need-sub-loop Inv-loop μ-loop Inv-loop2 μ-loop2
+sub-loop c = search needs
+
+some-open-requires : tie.Need-some-open-requires Inv-loop μ-loop Inv-loop2 μ-loop2
+some-open-requires c κs = search needs
+
+add-i : tie.Need-add-i Inv-loop μ-loop Inv-loop2 μ-loop2
+add-i c = search needs
+
+loop-less : tie.Need-loop-less Inv-loop μ-loop Inv-loop2 μ-loop2
+loop-less c = search needs
+
+loop-again : tie.Need-loop-again Inv-loop μ-loop Inv-loop2 μ-loop2
+loop-again c = pass (c .before .before .before .loop .inv) 16 (omega arith) (c .before .some-open .ensures (not-true _ (c .if1 .taken)))
+
+loop2-holds : tie.Need-loop2-holds Inv-loop μ-loop Inv-loop2 μ-loop2
+loop2-holds c = c .before .loop .inv
+
+mul-if2 : tie.Need-mul-if2 Inv-loop μ-loop Inv-loop2 μ-loop2
+mul-if2 c = search needs
+
+shared-slice-read-if2 : tie.Need-shared-slice-read-if2 Inv-loop μ-loop Inv-loop2 μ-loop2
+shared-slice-read-if2 c = search needs
+
+add-i-2 : tie.Need-add-i-2 Inv-loop μ-loop Inv-loop2 μ-loop2
+add-i-2 c = search needs
+
+loop2-less : tie.Need-loop2-less Inv-loop μ-loop Inv-loop2 μ-loop2
+loop2-less c = search needs
+
+loop2-again : tie.Need-loop2-again Inv-loop μ-loop Inv-loop2 μ-loop2
+loop2-again c = next (c .before .before .before .loop2 .inv) (omega (arith, c .before .before .loop2-test .taken)) (ltb-true _ _ (c .if2 .taken))
+
+returns : tie.Need-returns Inv-loop μ-loop Inv-loop2 μ-loop2
+returns c = c .before .before .before .loop2 .inv
+
+returns-2 : tie.Need-returns-2 Inv-loop μ-loop Inv-loop2 μ-loop2
+returns-2 c = c .before .loop2 .inv
+
+pub next-open-spec : {M : Type 1} → statement M
+next-open-spec =
+    tie.close
+    (tie.spec
+    Inv-loop
+    μ-loop
+    Inv-loop2
+    μ-loop2
+    loop-holds
+    sub-loop
+    some-open-requires
+    add-i
+    loop-less
+    loop-again
+    loop2-holds
+    mul-if2
+    shared-slice-read-if2
+    add-i-2
+    loop2-less
+    loop2-again
+    returns
+    returns-2)
