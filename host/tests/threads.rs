@@ -44,7 +44,7 @@ fn heavy() -> Vec<Contract> {
     let long = (0..2700).map(|_| Stmt::Expr(Expr::Int(u64::MAX))).collect();
     let calls = vec![Expr::Call("g".into(), vec![]); 20];
     let mut all: Vec<Contract> = [vec![Stmt::Expr(deep)], nested, long].into_iter().map(|b| contract(vec![function("main", b)])).collect();
-    // 29 calls one in the other, 64 records deep: of the narrow trees none takes more stack (examples/stack).
+    // 29 calls one in the other, 64 records deep.
     let call = (0..29).fold(Expr::Int(1), |e, _| Expr::Call("g".into(), vec![e]));
     let g = Function { params: vec![typed("a", "u64")], return_type: Some("u64".into()), ..function("g", vec![]) };
     all.push(contract(vec![function("main", vec![Stmt::Expr(call)]), g]));
@@ -99,12 +99,12 @@ fn many_threads() {
 }
 
 #[test]
-fn a_stack_of_96_kib() {
+fn a_stack_of_72_kib() {
     let images: Vec<Vec<u8>> =
         samples().iter().map(|n| sample(&format!("{n}.img"))).chain(heavy().iter().map(|c| image(c).unwrap())).collect();
     let run = move || images.iter().map(|i| guarded(i, 8 * 65_536).0.unwrap_or_else(|r| r.number as usize)).sum::<usize>();
     let roomy = run.clone()();
-    let small = thread::Builder::new().stack_size(96 << 10).spawn(run).unwrap().join().unwrap();
+    let small = thread::Builder::new().stack_size(72 << 10).spawn(run).unwrap().join().unwrap();
     assert_eq!(small, roomy);
 }
 
