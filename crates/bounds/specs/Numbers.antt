@@ -1,15 +1,12 @@
 -- Which words have a number, and that such a word is read back from it.
 -- Assumes nothing.
 use mathlib.Core.Path.{_≡_, refl, ap, ap₂, _∙_}
-use mathlib.Core.Bool.{Bool, cond}
 use mathlib.Core.List.{List, [], _∷_, map}
 use Prim.Native.Nat.{ℕ, suc, _-_, _%_, _^_, _≤_, _<_}
 use native.Mathlib.Omega.{arith}
-use borrow.Author.Tests.{lt-ltb, le-ltb}
-use lib.IntN as int
 use Rattle.isa.specs.declared.Encoded.the-variants as answer
-use Rattle.isa.specs.Word.{encodeOf, wordOf}
-use Rattle.isa.specs.Laws.{decode-encode, number-below}
+use Rattle.isa.specs.Word.{encodeOf}
+use Rattle.isa.specs.Laws.{decode-encode, word-below, signed-low, signed-high}
 use Rattle.isa.specs.Laws as laws
 use Rattle.isa.specs.Signed.{signedOf}
 use Rattle.rules.specs.Machine.{Imm, Word, At, bitsOf, instructionOf, numberOf, immOf, wordIn, read}
@@ -34,11 +31,10 @@ bits-below (Imm.neg n) h = omega arith
 
 -- The bits read as signed are the imm.
 signed-bits : (d : Imm) → In-32 d → immOf (signedOf (bitsOf d)) ≡ d
-unfolding signedOf bitsOf immOf
-signed-bits (Imm.pos n) h = ap (λ (b : Bool). immOf (cond b (int.pos n) (int.negsuc (4294967296 - suc n)))) (lt-ltb n 2147483648 h)
+unfolding bitsOf immOf
+signed-bits (Imm.pos n) h = ap immOf (signed-low n h)
 signed-bits (Imm.neg n) h =
-    ap (λ (b : Bool). immOf (cond b (int.pos (4294967296 - n)) (int.negsuc (4294967296 - suc (4294967296 - n))))) (le-ltb (4294967296 - n) 2147483648 (omega arith))
-    ∙ ap Imm.neg (omega arith)
+    ap immOf (signed-high (4294967296 - n) (omega arith)) ∙ ap Imm.neg (omega arith)
 
 -- Encoding gives its number.
 pub encoded : (w : Word) → Encodable w → encodeOf (instructionOf w) ≡ answer.Word (numberOf w)
@@ -58,8 +54,8 @@ encoded-cut w h =
 
 -- The number is below 2^55.
 pub number-small : (w : Word) → Encodable w → numberOf w < 2 ^ 55
-unfolding instructionOf numberOf wordOf
-number-small w h = omega (arith, number-below (w .op), bits-below (w .imm) (h .imm), h .rd, h .rs1, h .rs2)
+unfolding instructionOf
+number-small w h = word-below (instructionOf w) (numberOf w) (bits-below (w .imm) (h .imm)) (encoded w h)
 
 -- The word is read back from its number.
 pub read-back : (w : Word) → Encodable w → read (numberOf w) ≡ w

@@ -17,7 +17,7 @@ use Rattle.isa.specs.declared.Instruction.{Instruction}
 use Rattle.isa.specs.declared.Opcode.{Opcode}
 use Rattle.isa.specs.declared.Opcode.the-variants as op
 use Rattle.isa.specs.Word as isa
-use Rattle.isa.specs.Laws.{word-below}
+use Rattle.isa.specs.Laws.{word-below, offset-ahead, offset-back}
 use Rattle.isa.specs.Signed.{offsetOf}
 use Rattle.rules.specs.Bytes.{pick, Name, eqName}
 use Rattle.rules.specs.Tables.{orElse, last, last-index}
@@ -67,12 +67,6 @@ agrees F j (f ∷ fs) [] x h = absurd h
 agrees F j (f ∷ fs) (e ∷ T) x h = agree-else (agrees F (suc j) fs T x (h .1 .1 .1 .1)) (agree-here j f e x (h .0) (h .1 .0) (h .1 .1 .0) (h .1 .1 .1 .0))
 
 -- 000: a target less an own index, as 32 bits
-ahead : (t i : ℕ) → i ≤ t → t < 2 ^ 32 → (t + (2 ^ 32 - i)) % 2 ^ 32 ≡ t - i
-ahead t i h g = omega arith
-
-back : (t i : ℕ) → t < i → i < 2 ^ 32 → (t + (2 ^ 32 - i)) % 2 ^ 32 ≡ 2 ^ 32 - (i - t)
-back t i h g = omega arith
-
 bits-less : (t i : ℕ) → t < 2 ^ 32 → i < 2 ^ 32 → offsetOf (t % 2 ^ 32) (i % 2 ^ 32) ≡ bitsOf (less t i)
 unfolding less bitsOf pick
 bits-less t i ht hi =
@@ -80,9 +74,9 @@ bits-less t i ht hi =
     let b : i % 2 ^ 32 ≡ i = omega (arith, hi) in
     rw (a, b) (by (leb i t) refl)
   where
-    by : (b : Bool) → leb i t ≡ b → (t + (2 ^ 32 - i)) % 2 ^ 32 ≡ bitsOf (pick b (Imm.pos (t - i)) (Imm.neg (i - t)))
-    by true e = ahead t i (leb-true _ _ e) ht
-    by false e = back t i (leb-false _ _ e) hi
+    by : (b : Bool) → leb i t ≡ b → offsetOf t i ≡ bitsOf (pick b (Imm.pos (t - i)) (Imm.neg (i - t)))
+    by true e = offset-ahead t i (leb-true _ _ e) ht
+    by false e = offset-back t i (leb-false _ _ e) hi
 
 -- Only the 32 bits count.
 word-cut : (o : Opcode) (d a b i k : ℕ) → i % 2 ^ 32 ≡ k % 2 ^ 32 → wordOf o d a b i ≡ wordOf o d a b k
