@@ -29,7 +29,7 @@ fn write(table: &mut [u64], k: usize, place: usize, first: usize, params: usize)
 }
 
 // The entries of all n functions, whose first words are `firsts`.
-pub fn fill(table: &mut [u64], img: &[u8], tables: &[usize], firsts: &[usize; 256], n: usize)
+pub(crate) fn fill(table: &mut [u64], img: &[u8], tables: &[usize], firsts: &[usize; 256], n: usize)
     requires { ⌜ Tabled (now img) (now tables) × ((n ≡ length (functionsIn (now img))) × (3 * n ≤ length (now table))) ⌝ }
     ensures { λ _. ⌜ now (table .exit) ≡ over (spread (three (now (img .entry)) (now (firsts .entry))) (below n)) (now (table .entry)) ⌝ }
 {

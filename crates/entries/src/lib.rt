@@ -69,7 +69,7 @@ fn entry_no(img: &[u8], tables: &[usize], firsts: &[usize], k: usize) -> Entry
 }
 
 // The entries of the first n functions, whose first words are `firsts`; past them what was lent.
-pub fn fill(table: &mut [Entry], img: &[u8], tables: &[usize], firsts: &[usize], n: usize)
+fn fill(table: &mut [Entry], img: &[u8], tables: &[usize], firsts: &[usize], n: usize)
     requires { ⌜ Tabled (now img) (now tables) × ((n ≤ length (functionsIn (now img))) × ((n ≤ length (now firsts)) × (n ≤ length (now table)))) ⌝ }
     ensures { λ _. ⌜ now (table .exit) ≡ over (entriesOf (now (img .entry)) (now (firsts .entry)) n) (now (table .entry)) ⌝ }
 {

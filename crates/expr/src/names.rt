@@ -32,14 +32,14 @@ pub enum Builtin {
 }
 
 // The cell at i, 0 past the end.
-pub fn cell(a: &[usize], i: usize) -> usize
+fn cell(a: &[usize], i: usize) -> usize
     ensures { λ r. ⌜ r ≡ getD (now (a .entry)) i 0 ⌝ }
 {
     if i < a.len() { a[i] } else { 0 }
 }
 
 // How many names are in scope.
-pub fn names_in(scope: &[usize]) -> usize
+fn names_in(scope: &[usize]) -> usize
     ensures { λ r. ⌜ r ≡ min (getD (now (scope .entry)) 0 0) 512 ⌝ }
 {
     let n = cell(scope, 0);

@@ -84,7 +84,7 @@ pub enum Misfit {
 }
 
 // 001: Type::from_str, of the name at p.
-pub fn type_at(img: &[u8], p: usize) -> Ty
+fn type_at(img: &[u8], p: usize) -> Ty
     ensures { λ r. ⌜ tyOf (now (img .entry)) r ≡ typeNamed (nameAt (now (img .entry)) p) ⌝ }
 {
     if records::is_name(img, p, b"u64") {

@@ -11,7 +11,7 @@ ghost use Rattle.records.specs.Cells.{placeIn, numberIn, Beside};
 pub const NAMES: usize = 1025;
 
 // The byte at i.
-pub fn byte(img: &[u8], i: usize) -> u64
+fn byte(img: &[u8], i: usize) -> u64
     ensures { λ r. ⌜ (r ≡ byteAt (now (img .entry)) i) × (r < 256) ⌝ }
 {
     if i < img.len() { img[i] as u64 } else { 0 }
@@ -251,7 +251,7 @@ pub fn is_name(img: &[u8], i: usize, x: &[u8]) -> bool
 }
 
 // A number that tells most byte strings apart: the first four bytes and the last four.
-pub fn key(x: &[u8]) -> usize
+fn key(x: &[u8]) -> usize
     ensures { λ r. ⌜ r ≡ keyOf (now (x .entry)) ⌝ }
 {
     let n = x.len();

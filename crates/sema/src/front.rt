@@ -40,7 +40,7 @@ fn behind_check(
 }
 
 // 01: image, analysis
-pub fn analysis(
+pub(crate) fn analysis(
     tables: &mut [usize; tables::SIZE],
     names: &mut [usize; records::NAMES],
     image: &[u8],

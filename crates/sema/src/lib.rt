@@ -697,7 +697,7 @@ fn analyze_function(env: &mut [usize], img: &[u8], tables: &[usize], p: usize) -
 }
 
 // 001: analyze, of an image that the check passed, with its tables: the functions in turn. `env` is for the names in scope: 512 of them, two cells each.
-pub fn analyse_checked(env: &mut [usize], img: &[u8], tables: &[usize]) -> Checked
+fn analyse_checked(env: &mut [usize], img: &[u8], tables: &[usize]) -> Checked
     requires { ⌜ (Tabled (now img) (now tables)) × ((Passed (now img)) × (1025 ≤ length (now env))) ⌝ }
     ensures { λ r. ⌜ (checkedOf (now (img .entry)) r ≡ analysis (now (img .entry))) × (length (now (env .exit)) ≡ length (now (env .entry))) ⌝ }
 {
@@ -719,7 +719,7 @@ pub fn analyse_checked(env: &mut [usize], img: &[u8], tables: &[usize]) -> Check
 }
 
 // A refusal has no count.
-pub fn answer_at(number: u64, place: usize) -> Answer
+fn answer_at(number: u64, place: usize) -> Answer
     ensures { λ r. ⌜ r ≡ answer number place 0 ⌝ }
 {
     Answer {
@@ -730,7 +730,7 @@ pub fn answer_at(number: u64, place: usize) -> Answer
 }
 
 // 01: What comes back, rows 10 to 22.
-pub fn refusal(f: Fault) -> Answer
+fn refusal(f: Fault) -> Answer
     ensures { λ r. ⌜ ((img : List ℕ) → r ≡ refused (faultOf img f)) ⌝ }
 {
     match f {

@@ -10,9 +10,9 @@ ghost use Rattle.tables.specs.Listed.{Listed, Above, Cleared, Tabled, Na
 
 pub const FUNCTIONS: usize = 0;
 
-pub const STRUCTS: usize = 318;
+const STRUCTS: usize = 318;
 
-pub const STORAGE: usize = 444;
+const STORAGE: usize = 444;
 
 pub const SIZE: usize = 762;
 
