@@ -1,34 +1,33 @@
 //! The least stack, in KiB, on which the deepest trees of each kind are built. (`many` has more parameters than there are registers: the answer is 41.)
 //! Trees that end in a `lost` name are refused by analysis, so that theirs is the stack of analysis.
-use haspnettle::ast::{BinOp, Contract, Expr, Function, Param, Stmt, StorageField, Struct};
-use haspnettle::{build_into, image, Unwritable};
+use haspnettle::ast::{Contract, Expr, Stmt, Struct};
+use haspnettle::{ast, build_into, image, Unwritable};
 use std::{env, process::Command, thread};
+use tree::*;
 
-fn contract(body: Vec<Stmt>) -> Contract {
-    let one = |name: &str, ty: &str| StorageField { name: name.into(), ty: ty.into() };
-    let param = |name: &str| Param { name: name.into(), ty: "u64".into() };
-    let f = |name: &str, params, body| Function { name: name.into(), params, return_type: Some("u64".into()), body, is_pub: false };
-    Contract {
-        name: "c".into(),
-        storage: vec![one("m", "u64")],
-        structs: vec![
-            Struct { name: "S".into(), fields: vec![one("x", "S")] },
-            Struct { name: "W".into(), fields: (0..64).map(|i| one(&format!("f{i}"), if i < 63 { "u64" } else { "W" })).collect() },
+#[path = "../tests/common/tree.rs"]
+mod tree;
+
+fn of(body: Vec<Stmt>) -> Contract {
+    let wide = (0..64).map(|i| field(&format!("f{i}"), if i < 63 { "u64" } else { "W" })).collect();
+    let names: Vec<String> = (0..64).map(|i| format!("p{i}")).collect();
+    contract(
+        vec![field("m", "u64")],
+        vec![structure("S", vec![("x", "S")]), Struct { name: "W".into(), fields: wide }],
+        vec![
+            function("main", vec![("p", "S"), ("w", "W"), ("q", "u64")], Some("u64"), body),
+            function("g", vec![("a", "u64")], Some("u64"), vec![]),
+            function("many", names.iter().map(|p| (&p[..], "u64")).collect(), Some("u64"), vec![]),
         ],
-        functions: vec![
-            f("main", vec![Param { name: "p".into(), ty: "S".into() }, Param { name: "w".into(), ty: "W".into() }, param("q")], body),
-            f("g", vec![param("a")], vec![]),
-            f("many", (0..64).map(|i| param(&format!("p{i}"))).collect(), vec![]),
-        ],
-    }
+    )
 }
 
 // Wraps again and again, until no image holds it.
-fn deepest(leaf: Expr, wrap: impl Fn(Expr) -> Expr) -> Contract {
-    let (mut e, mut last) = (leaf, contract(vec![]));
+fn deepest<T: Clone>(mut inner: T, wrap: impl Fn(T) -> T, body: impl Fn(T) -> Vec<Stmt>) -> Contract {
+    let mut last = of(vec![]);
     loop {
-        e = wrap(e);
-        let next = contract(vec![Stmt::Expr(e.clone())]);
+        inner = wrap(inner);
+        let next = of(body(inner.clone()));
         match image(&next) {
             Ok(_) => last = next,
             Err(Unwritable::TooDeep) => return last,
@@ -37,44 +36,39 @@ fn deepest(leaf: Expr, wrap: impl Fn(Expr) -> Expr) -> Contract {
     }
 }
 
+fn deepest_expr(leaf: Expr, wrap: impl Fn(Expr) -> Expr) -> Contract {
+    deepest(leaf, wrap, |e| vec![does(e)])
+}
+
 fn deepest_body(wrap: impl Fn(Vec<Stmt>) -> Stmt) -> Contract {
-    let (mut body, mut last) = (vec![], contract(vec![]));
-    loop {
-        body = vec![wrap(body)];
-        let next = contract(body.clone());
-        if image(&next).is_err() {
-            return last;
-        }
-        last = next;
-    }
+    deepest(vec![], |body| vec![wrap(body)], |body| body)
 }
 
 fn kinds() -> Vec<(&'static str, Contract)> {
-    let call = |f: &str, a: Vec<Expr>| Expr::Call(f.into(), a);
-    let q = || Expr::Ident("q".into());
-    let lost = || Expr::Ident("lost".into());
+    let q = || id("q");
+    let lost = || id("lost");
     let inits = |e: Expr| (0..63).map(|i| (format!("f{i}"), q())).chain([("f63".into(), e)]).collect();
     vec![
-        ("empty", contract(vec![])),
-        ("call", deepest(Expr::Int(1), |e| call("g", vec![e]))),
-        ("wide call", deepest(q(), |e| call("many", [vec![q(); 63], vec![e]].concat()))),
-        ("poseidon", deepest(Expr::Int(1), |e| call("poseidon", vec![e, Expr::Int(1)]))),
-        ("merkle", deepest(Expr::Int(1), |e| call("verify_merkle_proof", vec![e, Expr::Int(1), Expr::Int(1)]))),
-        ("mapping", deepest(Expr::Int(1), |e| Expr::MappingRead("m".into(), Box::new(e)))),
-        ("binary left", deepest(Expr::Int(1), |e| Expr::Binary(Box::new(e), BinOp::Add, Box::new(Expr::Int(1))))),
-        ("binary right", deepest(Expr::Int(1), |e| Expr::Binary(Box::new(Expr::Int(1)), BinOp::Add, Box::new(e)))),
-        ("literal", deepest(Expr::Ident("p".into()), |e| Expr::StructLiteral("S".into(), vec![("x".into(), e)]))),
-        ("wide literal", deepest(Expr::Ident("w".into()), |e| Expr::StructLiteral("W".into(), inits(e)))),
-        ("access", deepest(Expr::Ident("p".into()), |e| Expr::FieldAccess(Box::new(e), "x".into()))),
-        ("lost call", deepest(lost(), |e| call("g", vec![e]))),
-        ("lost mapping", deepest(lost(), |e| Expr::MappingRead("m".into(), Box::new(e)))),
-        ("lost binary", deepest(lost(), |e| Expr::Binary(Box::new(e), BinOp::Add, Box::new(Expr::Int(1))))),
-        ("lost access", deepest(lost(), |e| Expr::FieldAccess(Box::new(e), "x".into()))),
-        ("lost literal", deepest(lost(), |e| Expr::StructLiteral("S".into(), vec![("x".into(), e)]))),
-        ("if", deepest_body(|b| Stmt::If(Expr::Int(1), b, None))),
-        ("else", deepest_body(|b| Stmt::If(Expr::Int(1), vec![], Some(b)))),
-        ("while", deepest_body(|b| Stmt::While(Expr::Int(1), b))),
-        ("for", deepest_body(|b| Stmt::For { var: "i".into(), start: Expr::Int(0), end: Expr::Int(1), body: b })),
+        ("empty", of(vec![])),
+        ("call", deepest_expr(int(1), |e| call("g", vec![e]))),
+        ("wide call", deepest_expr(q(), |e| call("many", [vec![q(); 63], vec![e]].concat()))),
+        ("poseidon", deepest_expr(int(1), |e| call("poseidon", vec![e, int(1)]))),
+        ("merkle", deepest_expr(int(1), |e| call("verify_merkle_proof", vec![e, int(1), int(1)]))),
+        ("mapping", deepest_expr(int(1), |e| mapping("m", e))),
+        ("binary left", deepest_expr(int(1), |e| add(e, int(1)))),
+        ("binary right", deepest_expr(int(1), |e| add(int(1), e))),
+        ("literal", deepest_expr(id("p"), |e| literal("S", vec![("x", e)]))),
+        ("wide literal", deepest_expr(id("w"), |e| Expr::StructLiteral("W".into(), inits(e)))),
+        ("access", deepest_expr(id("p"), |e| access(e, "x"))),
+        ("lost call", deepest_expr(lost(), |e| call("g", vec![e]))),
+        ("lost mapping", deepest_expr(lost(), |e| mapping("m", e))),
+        ("lost binary", deepest_expr(lost(), |e| add(e, int(1)))),
+        ("lost access", deepest_expr(lost(), |e| access(e, "x"))),
+        ("lost literal", deepest_expr(lost(), |e| literal("S", vec![("x", e)]))),
+        ("if", deepest_body(|b| if_(int(1), b, None))),
+        ("else", deepest_body(|b| if_(int(1), vec![], Some(b)))),
+        ("while", deepest_body(|b| while_(int(1), b))),
+        ("for", deepest_body(|b| for_("i", int(0), int(1), b))),
     ]
 }
 

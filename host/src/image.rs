@@ -6,16 +6,27 @@ use std::fmt;
 
 /// What no image can hold.
 #[derive(Debug, Clone, PartialEq, Eq)]
+#[non_exhaustive]
 pub enum Unwritable {
     /// A name is 1 to 64 bytes of A-Z a-z 0-9 _ : and this is none.
     Name(String),
     /// More of these than the bound: storage 256, structs 64, fields of a struct 64, functions 256, initial values of a literal 64,
     /// arguments of a call 64, names of a function (parameters, Lets and Fors) 512.
-    TooMany { what: &'static str, most: usize, found: usize },
+    TooMany {
+        /// What there are too many of.
+        what: &'static str,
+        /// The bound.
+        most: usize,
+        /// How many there are; of a function's names the first over the bound.
+        found: usize,
+    },
     /// Records within records, more than 64 deep.
     TooDeep,
     /// An image has at most 65,536 bytes.
-    TooLong { bytes: usize },
+    TooLong {
+        /// What it would have.
+        bytes: usize,
+    },
 }
 
 impl fmt::Display for Unwritable {
@@ -45,6 +56,25 @@ const FIELD: u16 = 17;
 const STRUCT: u16 = 18;
 const FUNCTION: u16 = 19;
 const INIT: u16 = 20;
+const LET: u16 = 32;
+const CONSTRAIN: u16 = 33;
+const ASSIGN: u16 = 34;
+const STORAGE_WRITE: u16 = 35;
+const MAPPING_WRITE: u16 = 36;
+const IF: u16 = 37;
+const WHILE: u16 = 38;
+const FOR: u16 = 39;
+const RETURN: u16 = 40;
+const EMIT: u16 = 41;
+const EXPR: u16 = 42;
+const INT: u16 = 64;
+const IDENT: u16 = 65;
+const STORAGE_READ: u16 = 66;
+const MAPPING_READ: u16 = 67;
+const FIELD_ACCESS: u16 = 68;
+const STRUCT_LITERAL: u16 = 69;
+const BINARY: u16 = 70;
+const CALL: u16 = 71;
 
 /// The image of a contract.
 ///
@@ -170,70 +200,66 @@ impl Writer {
         match s {
             Stmt::Let(x, e) => {
                 self.declares()?;
-                self.named_expr(32, x, e)
+                self.named_exprs(LET, x, &[e])
             }
-            Stmt::Constrain(e) => self.record(33, |w| w.expr(e)),
-            Stmt::Assign(x, e) => self.named_expr(34, x, e),
-            Stmt::StorageWrite(x, e) => self.named_expr(35, x, e),
-            Stmt::MappingWrite(x, key, value) => self.record(36, |w| {
-                w.name(x)?;
-                w.expr(key)?;
-                w.expr(value)
-            }),
-            Stmt::If(condition, then, otherwise) => self.record(37, |w| {
+            Stmt::Constrain(e) => self.record(CONSTRAIN, |w| w.expr(e)),
+            Stmt::Assign(x, e) => self.named_exprs(ASSIGN, x, &[e]),
+            Stmt::StorageWrite(x, e) => self.named_exprs(STORAGE_WRITE, x, &[e]),
+            Stmt::MappingWrite(x, key, value) => self.named_exprs(MAPPING_WRITE, x, &[key, value]),
+            Stmt::If(condition, then, otherwise) => self.record(IF, |w| {
                 w.expr(condition)?;
                 w.body(then)?;
                 otherwise.iter().try_for_each(|body| w.body(body))
             }),
-            Stmt::While(condition, body) => self.record(38, |w| {
+            Stmt::While(condition, body) => self.record(WHILE, |w| {
                 w.expr(condition)?;
                 w.body(body)
             }),
             Stmt::For { var, start, end, body } => {
                 self.declares()?;
-                self.record(39, |w| {
+                self.record(FOR, |w| {
                     w.name(var)?;
                     w.expr(start)?;
                     w.expr(end)?;
                     w.body(body)
                 })
             }
-            Stmt::Return(value) => self.record(40, |w| value.iter().try_for_each(|e| w.expr(e))),
-            Stmt::Emit(x, arguments) => self.record(41, |w| {
+            Stmt::Return(value) => self.record(RETURN, |w| value.iter().try_for_each(|e| w.expr(e))),
+            Stmt::Emit(x, arguments) => self.record(EMIT, |w| {
                 w.name(x)?;
                 w.list(arguments, Self::expr)
             }),
-            Stmt::Expr(e) => self.record(42, |w| w.expr(e)),
+            Stmt::Expr(e) => self.record(EXPR, |w| w.expr(e)),
         }
     }
 
-    fn named_expr(&mut self, kind: u16, x: &str, e: &Expr) -> Written {
+    fn named_exprs(&mut self, kind: u16, x: &str, parts: &[&Expr]) -> Written {
         self.record(kind, |w| {
             w.name(x)?;
-            w.expr(e)
+            parts.iter().try_for_each(|e| w.expr(e))
         })
     }
 
     fn expr(&mut self, e: &Expr) -> Written {
         match e {
-            Expr::Int(n) => self.record(64, |w| w.raw(&n.to_le_bytes())),
-            Expr::Ident(x) => self.record(65, |w| w.name(x)),
-            Expr::StorageRead(x) => self.record(66, |w| w.name(x)),
-            Expr::MappingRead(x, key) => self.named_expr(67, x, key),
-            Expr::FieldAccess(base, x) => self.record(68, |w| {
+            Expr::Int(n) => self.record(INT, |w| w.raw(&n.to_le_bytes())),
+            Expr::Ident(x) => self.record(IDENT, |w| w.name(x)),
+            Expr::StorageRead(x) => self.record(STORAGE_READ, |w| w.name(x)),
+            Expr::MappingRead(x, key) => self.named_exprs(MAPPING_READ, x, &[key]),
+            Expr::FieldAccess(base, x) => self.record(FIELD_ACCESS, |w| {
                 w.expr(base)?;
                 w.name(x)
             }),
-            Expr::StructLiteral(x, inits) => self.record(69, |w| {
+            Expr::StructLiteral(x, inits) => self.record(STRUCT_LITERAL, |w| {
                 w.name(x)?;
-                w.few("initial values in one literal", 64, inits, |w, (x, e)| w.named_expr(INIT, x, e))
+                w.few("initial values in one literal", 64, inits, |w, (x, e)| w.named_exprs(INIT, x, &[e]))
             }),
-            Expr::Binary(left, op, right) => self.record(70, |w| {
+            Expr::Binary(left, op, right) => self.record(BINARY, |w| {
                 w.expr(left)?;
-                w.record(OP, |w| w.raw(&[op_byte(*op)]))?;
+                w.record(OP, |w| w.raw(&[op_byte(op)]))?;
                 w.expr(right)
             }),
-            Expr::Call(f, arguments) => self.record(71, |w| {
+            Expr::Call(f, arguments) => self.record(CALL, |w| {
                 w.name(f)?;
                 w.few("arguments in one call", 64, arguments, Self::expr)
             }),
@@ -241,7 +267,7 @@ impl Writer {
     }
 }
 
-fn op_byte(op: BinOp) -> u8 {
+fn op_byte(op: &BinOp) -> u8 {
     match op {
         BinOp::Add => 0,
         BinOp::Sub => 1,

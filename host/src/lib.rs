@@ -29,7 +29,7 @@
 //! assert!(out[8 * count..].iter().all(|b| *b == 0xAA));
 //! ```
 
-#![deny(missing_debug_implementations)]
+#![deny(missing_debug_implementations, missing_docs)]
 
 pub mod ast;
 mod image;
@@ -42,11 +42,26 @@ pub use refusal::Refusal;
 use std::error::Error;
 use std::fmt;
 
-/// Why a contract was not built: it has no image, or its image is refused.
+/// Why a contract was not built or not analysed: it has no image, or its image is refused.
 #[derive(Debug, Clone, PartialEq, Eq)]
+#[non_exhaustive]
 pub enum Failure {
+    /// No image holds the contract.
     Unwritable(Unwritable),
+    /// The compiler refuses its image.
     Refused(Refusal),
+}
+
+impl From<Unwritable> for Failure {
+    fn from(e: Unwritable) -> Self {
+        Failure::Unwritable(e)
+    }
+}
+
+impl From<Refusal> for Failure {
+    fn from(r: Refusal) -> Self {
+        Failure::Refused(r)
+    }
 }
 
 impl fmt::Display for Failure {
@@ -58,11 +73,12 @@ impl fmt::Display for Failure {
     }
 }
 
+// The text is the inner error's, so the source is too.
 impl Error for Failure {
     fn source(&self) -> Option<&(dyn Error + 'static)> {
         match self {
-            Failure::Unwritable(e) => Some(e),
-            Failure::Refused(r) => Some(r),
+            Failure::Unwritable(e) => e.source(),
+            Failure::Refused(r) => r.source(),
         }
     }
 }
@@ -87,24 +103,88 @@ pub fn build_into(image: &[u8], out: &mut [u8]) -> Result<usize, Refusal> {
 /// assert_eq!(haspnettle::build_image(&[0; 65_537]).unwrap_err().to_string(), "image over 65,536 bytes (1)");
 /// ```
 pub fn build_image(image: &[u8]) -> Result<Vec<u64>, Refusal> {
-    // Most programs have fewer words than their image has bytes; where one has more, 50 tells how many.
-    let mut bytes = vec![0; 8 * image.len().clamp(64, 65_536)];
-    let count = match build_into(image, &mut bytes) {
-        Err(Refusal { number: 50, count, .. }) => {
-            bytes.resize(8 * count as usize, 0);
-            build_into(image, &mut bytes)?
-        }
-        other => other?,
-    };
-    Ok(words_of(&bytes[..8 * count]))
+    // Most programs have fewer words than their image has bytes.
+    words(image.len().clamp(64, 65_536), |out| build_into(image, out))
 }
 
 /// The words of a contract.
 pub fn build(contract: &ast::Contract) -> Result<Vec<u64>, Failure> {
-    let image = image(contract).map_err(Failure::Unwritable)?;
-    build_image(&image).map_err(Failure::Refused)
+    Ok(build_image(&image(contract)?)?)
 }
 
-fn words_of(bytes: &[u8]) -> Vec<u64> {
-    bytes.chunks_exact(8).map(|c| c.iter().rev().fold(0, |word, b| word << 8 | u64::from(*b))).collect()
+/// Analyses the image, and stops where generation would start: the refusals are 1 to 22.
+///
+/// ```
+/// # use haspnettle::ast::Contract;
+/// let no_main = Contract { name: "c".into(), storage: vec![], structs: vec![], functions: vec![] };
+/// let image = haspnettle::image(&no_main).unwrap();
+/// assert_eq!(haspnettle::analyse(&image), Ok(()));
+/// assert_eq!(haspnettle::build_image(&image).unwrap_err().number, 40);
+/// ```
+pub fn analyse(image: &[u8]) -> Result<(), Refusal> {
+    Refusal::unpack(raw::analyse(image)).map(|_| ())
+}
+
+/// Analyses a contract.
+///
+/// ```
+/// use haspnettle::ast::{Contract, Expr, Function, Stmt};
+///
+/// let body = vec![Stmt::Constrain(Expr::Ident("x".into()))];
+/// let main = Function { name: "main".into(), params: vec![], return_type: None, body, is_pub: false };
+/// let contract = Contract { name: "c".into(), storage: vec![], structs: vec![], functions: vec![main] };
+/// let failure = haspnettle::analyse_contract(&contract).unwrap_err();
+/// assert_eq!(failure.to_string(), "undefined identifier (10), at byte 78");
+/// ```
+pub fn analyse_contract(contract: &ast::Contract) -> Result<(), Failure> {
+    Ok(analyse(&image(contract)?)?)
+}
+
+// What `build` leaves in a slice of so many words; where 50 tells that they are more, in one of just so many.
+fn words(room: usize, build: impl Fn(&mut [u8]) -> Result<usize, Refusal>) -> Result<Vec<u64>, Refusal> {
+    let mut bytes = vec![0; 8 * room];
+    let count = match build(&mut bytes) {
+        Err(Refusal { number: 50, count, .. }) => {
+            bytes.resize(8 * count as usize, 0);
+            build(&mut bytes)?
+        }
+        other => other?,
+    };
+    bytes.truncate(8 * count);
+    Ok(bytes.chunks_exact(8).filter_map(|c| c.try_into().ok()).map(u64::from_le_bytes).collect())
+}
+
+#[cfg(test)]
+mod tests {
+    use super::{words, Refusal};
+    use std::cell::RefCell;
+
+    // Builds five words, or refuses; and the rooms that it was lent, in bytes.
+    fn tried(room: usize, number: u8) -> (Result<Vec<u64>, Refusal>, Vec<usize>) {
+        let rooms = RefCell::new(vec![]);
+        let build = |out: &mut [u8]| {
+            rooms.borrow_mut().push(out.len());
+            if out.len() < 40 {
+                return Err(Refusal { number, place: 0, count: 5 });
+            }
+            out[..40].fill(1);
+            Ok(5)
+        };
+        let answer = words(room, build);
+        (answer, rooms.into_inner())
+    }
+
+    #[test]
+    fn a_second_try_has_just_the_room() {
+        let five = Ok(vec![0x0101_0101_0101_0101; 5]);
+        assert_eq!(tried(4, 50), (five.clone(), vec![32, 40]));
+        assert_eq!(tried(7, 50), (five, vec![56]));
+    }
+
+    #[test]
+    fn nothing_but_50_is_tried_again() {
+        for number in (1..=255).filter(|n| *n != 50) {
+            assert_eq!(tried(4, number), (Err(Refusal { number, place: 0, count: 5 }), vec![32]));
+        }
+    }
 }

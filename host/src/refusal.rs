@@ -12,9 +12,13 @@ use std::fmt;
 /// assert_eq!(refusal.to_string(), "a record is due and under 6 bytes are left, or its length is under 2 or passes its parent's end (2), at byte 0");
 /// ```
 #[derive(Debug, Clone, Copy, PartialEq, Eq, Hash)]
+#[non_exhaustive]
 pub struct Refusal {
+    /// Which refusal it is.
     pub number: u8,
+    /// Where in the image it arose.
     pub place: u32,
+    /// The words that the program has, where they are too many (50).
     pub count: u32,
 }
 
@@ -82,3 +86,40 @@ impl fmt::Display for Refusal {
 }
 
 impl Error for Refusal {}
+
+#[cfg(test)]
+mod tests {
+    use super::Refusal;
+
+    const NUMBERS: [u8; 31] =
+        [1, 2, 3, 4, 5, 6, 7, 10, 11, 12, 13, 14, 15, 16, 17, 18, 19, 20, 21, 22, 30, 40, 41, 42, 43, 44, 45, 46, 47, 50, 51];
+
+    #[test]
+    fn every_refusal_has_its_own_text() {
+        let texts: Vec<String> = NUMBERS.iter().map(|&number| Refusal { number, place: 7, count: 9 }.to_string()).collect();
+        for (i, text) in texts.iter().enumerate() {
+            assert!(text.contains(&format!("({})", NUMBERS[i])) && !text.contains("unknown refusal"), "{text}");
+            assert!(texts[..i].iter().all(|t| t != text), "{text}");
+        }
+        for number in (0..=255).filter(|n| !NUMBERS.contains(n)) {
+            assert_eq!(Refusal { number, place: 0, count: 0 }.meaning(), "unknown refusal");
+        }
+    }
+
+    #[test]
+    fn places_and_counts_are_told() {
+        assert_eq!(Refusal { number: 46, place: 78, count: 0 }.to_string(), "unknown storage, read (46), at byte 78");
+        assert_eq!(Refusal { number: 50, place: 0, count: 10 }.to_string(), "code slice shorter than the program (50), 10 words needed");
+        assert_eq!(Refusal { number: 51, place: 0, count: 3 }.to_string(), "function table shorter than the functions (51), 3 functions");
+        assert_eq!(Refusal { number: 40, place: 0, count: 0 }.to_string(), "no function `main` (40)");
+        assert_eq!(Refusal { number: 1, place: 0, count: 0 }.to_string(), "image over 65,536 bytes (1)");
+    }
+
+    #[test]
+    fn every_answer_is_unpacked() {
+        assert_eq!(Refusal::unpack(0), Ok(0));
+        assert_eq!(Refusal::unpack(10 << 32), Ok(10));
+        assert_eq!(Refusal::unpack(46 + (0xABCDEF << 8)), Err(Refusal { number: 46, place: 0xABCDEF, count: 0 }));
+        assert_eq!(Refusal::unpack(u64::MAX), Err(Refusal { number: 255, place: 0xFF_FFFF, count: u32::MAX }));
+    }
+}

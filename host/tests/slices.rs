@@ -1,20 +1,18 @@
 //! Slices of any length: room is the length divided by 8, and a refusal clears the odd bytes too.
 mod common;
 
-use common::{guarded, sample, whole};
-use haspnettle::{build_image, Refusal};
+use common::{guarded, listed, sample, whole};
 
 #[test]
 fn every_length_about_the_end() {
     for name in ["c1", "c4_27", "c7", "c15_most"] {
         let image = sample(&format!("{name}.img"));
-        let words = build_image(&image).unwrap();
+        let words = listed(name).unwrap();
         for len in 0..8 * words.len() + 25 {
             let (answer, bytes) = guarded(&image, len);
-            let fits = len / 8 >= words.len();
-            let says = if fits { Ok(words.len()) } else { Err(Refusal { number: 50, place: 0, count: words.len() as u32 }) };
-            assert_eq!(answer, says, "{name} in {len} bytes");
-            assert_eq!(bytes, whole(&answer, &words, len), "{name} in {len} bytes");
+            let says = if len / 8 >= words.len() { Ok(words.clone()) } else { Err((50, 0, words.len() as u32)) };
+            assert_eq!(answer, says.as_ref().map(Vec::len).map_err(|r| *r), "{name} in {len} bytes");
+            assert_eq!(bytes, whole(&says, len), "{name} in {len} bytes");
         }
     }
 }

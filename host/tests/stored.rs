@@ -1,11 +1,8 @@
 //! The stored answers of the Rust (docs/STORED.md).
 mod common;
 
-use common::{guarded, repository};
-
-fn number(bytes: &[u8], at: usize) -> usize {
-    u32::from_le_bytes(bytes[at..at + 4].try_into().unwrap()) as usize
-}
+use common::{guarded, stored, told};
+use haspnettle::analyse;
 
 fn fnv(bytes: &[u8]) -> u64 {
     bytes.iter().fold(0xCBF2_9CE4_8422_2325, |h, b| (h ^ u64::from(*b)).wrapping_mul(0x100_0000_01B3))
@@ -13,26 +10,28 @@ fn fnv(bytes: &[u8]) -> u64 {
 
 #[test]
 fn every_stored_answer() {
-    let file = std::fs::read(repository().join("crates/replay/stdin")).unwrap();
-    assert_eq!(&file[..8], b"HASPANS1");
-    assert_eq!(number(&file, 12), file.len());
-    let (mut at, mut held) = (32, 0);
-    for case in 0..number(&file, 8) {
-        let n = number(&file, at);
-        let (room, refusal, place, count) = (number(&file, at + 4), number(&file, at + 12), number(&file, at + 16), number(&file, at + 20));
-        let checksum = u64::from_le_bytes(file[at + 24..at + 32].try_into().unwrap());
-        let (answer, bytes) = guarded(&file[at + 48..at + 48 + n], 8 * room);
-        match answer {
-            Ok(words) if refusal == 51 => assert!(words <= room, "case {case}"),
-            Ok(words) => assert_eq!((0, 0, words), (refusal, place, count), "case {case}"),
-            Err(r) => assert_eq!((r.number as usize, r.place as usize, r.count as usize), (refusal, place, count), "case {case}"),
+    let mut held = 0;
+    for (n, case) in stored().iter().enumerate() {
+        let (answer, bytes) = guarded(&case.image, 8 * case.room);
+        // 51 is the table's, and the host has none.
+        if case.built.0 == 51 {
+            assert!(answer.is_ok_and(|words| words <= case.room), "case {n}");
+            continue;
         }
-        if refusal != 51 {
-            assert_eq!(fnv(&bytes), checksum, "case {case}");
-            held += 1;
-        }
-        at += 48 + n;
+        let answer = answer.map_or_else(|r| r, |words| (0, 0, words as u32));
+        assert_eq!((answer, fnv(&bytes)), (case.built, case.checksum), "case {n}");
+        held += 1;
     }
-    assert_eq!(at, file.len());
     assert!(held > 2000);
+}
+
+#[test]
+fn every_stored_analysis() {
+    let all = stored();
+    for (n, case) in all.iter().enumerate() {
+        let answer = analyse(&case.image).map_or_else(told, |()| (0, 0, 0));
+        assert_eq!(answer, (case.analysed.0, case.analysed.1, 0), "case {n}");
+    }
+    // What generation or 30 refuses is among them.
+    assert!((30..=47).filter(|n| all.iter().any(|c| c.built.0 == *n && c.analysed.0 == 0)).eq([30].into_iter().chain(40..=47)));
 }

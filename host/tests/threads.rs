@@ -1,118 +1,98 @@
-//! Many threads at once, and a thread with little stack.
+//! Many threads at once, a thread with little stack, and a long function.
 mod common;
 
-use common::{guarded, sample, samples};
-use haspnettle::ast::{BinOp, Contract, Expr, Function, Param, Stmt, StorageField, Struct};
-use haspnettle::{build, build_image, image};
+use common::ast::{Contract, Stmt};
+use common::{edges::*, guarded, listed, sample, samples, told, tree::*, whole, Told};
+use haspnettle::{analyse, build_image, image};
 use std::thread;
 
-fn contract(functions: Vec<Function>) -> Contract {
-    Contract { name: "c".into(), storage: vec![], structs: vec![], functions }
-}
+// An image, and its words or refusal.
+type Case = (Vec<u8>, Result<Vec<u64>, Told>);
 
-fn function(name: &str, body: Vec<Stmt>) -> Function {
-    Function { name: name.into(), params: vec![], return_type: None, body, is_pub: false }
-}
-
-fn typed(name: &str, ty: &str) -> Param {
-    Param { name: name.into(), ty: ty.into() }
-}
-
-// Calls one in the other, each behind 63 arguments. (Of f no word is built: it has more parameters than there are registers.)
-fn wide_calls() -> Contract {
-    let x = || Expr::Ident("x".into());
-    let call = (0..28).fold(x(), |e, _| Expr::Call("f".into(), [vec![x(); 63], vec![e]].concat()));
-    let main = Function { params: vec![typed("x", "u64")], ..function("main", vec![Stmt::Expr(call)]) };
-    let params = (0..64).map(|i| typed(&format!("p{i}"), "u64")).collect();
-    contract(vec![main, Function { params, return_type: Some("u64".into()), ..function("f", vec![]) }])
-}
-
-// Literals one in the other, each behind 63 values.
-fn wide_literals() -> Contract {
-    let field = |i: usize| StorageField { name: format!("f{i}"), ty: if i < 63 { "u64" } else { "W" }.into() };
-    let value = |i: usize| (format!("f{i}"), Expr::Ident("x".into()));
-    let inits = |e: Expr| (0..63).map(value).chain([("f63".into(), e)]).collect();
-    let literal = (0..19).fold(Expr::Ident("w".into()), |e, _| Expr::StructLiteral("W".into(), inits(e)));
-    let main = Function { params: vec![typed("x", "u64"), typed("w", "W")], ..function("main", vec![Stmt::Expr(literal)]) };
-    Contract { structs: vec![Struct { name: "W".into(), fields: (0..64).map(field).collect() }], ..contract(vec![main]) }
-}
-
-// The deepest tree, and the longest function.
+// Deep trees of several kinds, wide ones, and one with loops and structs.
 fn heavy() -> Vec<Contract> {
-    let deep = (0..56).fold(Expr::Int(1), |e, _| Expr::MappingRead("m".into(), Box::new(e)));
-    let nested = (0..28).fold(vec![Stmt::Constrain(Expr::Int(1))], |b, _| vec![Stmt::If(Expr::Int(1), b, Some(vec![]))]);
-    let long = (0..2700).map(|_| Stmt::Expr(Expr::Int(u64::MAX))).collect();
-    let calls = vec![Expr::Call("g".into(), vec![]); 20];
-    let mut all: Vec<Contract> = [vec![Stmt::Expr(deep)], nested, long].into_iter().map(|b| contract(vec![function("main", b)])).collect();
+    let deep = (0..56).fold(int(1), |e, _| mapping("m", e));
+    let nested = (0..28).fold(vec![constrain(int(1))], |b, _| vec![if_(int(1), b, Some(vec![]))]);
     // 29 calls one in the other, 64 records deep.
-    let call = (0..29).fold(Expr::Int(1), |e, _| Expr::Call("g".into(), vec![e]));
-    let g = Function { params: vec![typed("a", "u64")], return_type: Some("u64".into()), ..function("g", vec![]) };
-    all.push(contract(vec![function("main", vec![Stmt::Expr(call)]), g]));
-    all.push(contract(vec![function("main", vec![Stmt::Emit("e".into(), calls)]), function("g", vec![])]));
-    all.extend([wide_calls(), wide_literals()]);
-    all.push(Contract {
-        name: "c".into(),
-        storage: vec![StorageField { name: "s".into(), ty: "u64".into() }],
-        structs: vec![Struct { name: "P".into(), fields: vec![StorageField { name: "x".into(), ty: "u64".into() }] }],
-        functions: vec![Function {
-            name: "main".into(),
-            params: vec![typed("p", "P")],
-            return_type: Some("u64".into()),
-            body: vec![
-                Stmt::Let(
-                    "q".into(),
-                    Expr::StructLiteral("P".into(), vec![("x".into(), Expr::FieldAccess(Box::new(Expr::Ident("p".into())), "x".into()))]),
-                ),
-                Stmt::For {
-                    var: "i".into(),
-                    start: Expr::Int(0),
-                    end: Expr::Int(9),
-                    body: vec![Stmt::StorageWrite(
-                        "s".into(),
-                        Expr::Binary(Box::new(Expr::Ident("i".into())), BinOp::Add, Box::new(Expr::StorageRead("s".into()))),
-                    )],
-                },
-                Stmt::Return(Some(Expr::StorageRead("s".into()))),
-            ],
-            is_pub: true,
-        }],
-    });
+    let call_deep = (0..29).fold(int(1), |e, _| call("g", vec![e]));
+    let g = function("g", vec![("a", "u64")], Some("u64"), vec![]);
+    let main = |body| function("main", vec![], None, body);
+    vec![
+        main_of(vec![does(deep)]),
+        main_of(nested),
+        contract(vec![], vec![], vec![main(vec![does(call_deep)]), g]),
+        contract(vec![], vec![], vec![main(vec![emit("e", vec![call("g", vec![]); 20])]), function("g", vec![], None, vec![])]),
+        wide_calls(),
+        wide_literals(),
+        loops(),
+    ]
+}
+
+fn loops() -> Contract {
+    let body = vec![
+        let_("q", literal("P", vec![("x", access(id("p"), "x"))])),
+        for_("i", int(0), int(9), vec![write("s", add(id("i"), read("s")))]),
+        Stmt::Return(Some(read("s"))),
+    ];
+    let main = function("main", vec![("p", "P")], Some("u64"), body);
+    contract(vec![field("s", "u64")], vec![structure("P", vec![("x", "u64")])], vec![main])
+}
+
+// 2,700 times the statement of sample c15_most: the five words before it, its eight again and again, and the five behind it.
+fn long() -> (Vec<u8>, Vec<u64>) {
+    let one = listed("c15_most").unwrap();
+    let words = [one[..5].to_vec(), one[5..13].repeat(2700), one[13..].to_vec()].concat();
+    (image(&main_of(vec![does(int(u64::MAX)); 2700])).unwrap(), words)
+}
+
+// Images with words that are known from elsewhere: the samples' listings (but for C3, which is C1 with little room), the long function.
+fn known() -> Vec<Case> {
+    let names = samples().into_iter().filter(|n| n != "c3");
+    let mut all: Vec<_> = names.map(|n| (sample(&format!("{n}.img")), listed(&n))).collect();
+    let (img, words) = long();
+    all.push((img, Ok(words)));
     all
+}
+
+// The known ones, and the heavy ones with what one thread alone says.
+fn all() -> Vec<Case> {
+    let alone = |c: &Contract| {
+        let img = image(c).unwrap();
+        let says = build_image(&img).map_err(told);
+        (img, says)
+    };
+    known().into_iter().chain(heavy().iter().map(alone)).collect()
+}
+
+fn holds((img, says): &Case) {
+    assert_eq!(build_image(img).map_err(told), *says);
+    let analysed = says.as_ref().err().filter(|r| r.0 < 30).map_or(Ok(()), |r| Err(*r));
+    assert_eq!(analyse(img).map_err(told), analysed);
 }
 
 #[test]
 fn many_threads() {
-    let images: Vec<Vec<u8>> =
-        samples().iter().map(|n| sample(&format!("{n}.img"))).chain(heavy().iter().map(|c| image(c).unwrap())).collect();
-    let alone: Vec<_> = images.iter().map(|i| build_image(i)).collect();
+    let all = &all();
     thread::scope(|s| {
         for t in 0..16 {
-            let (images, alone) = (&images, &alone);
-            s.spawn(move || {
-                for k in 0..images.len() * 4 {
-                    let i = (k * 7 + t) % images.len();
-                    assert_eq!(build_image(&images[i]), alone[i]);
-                }
-            });
+            s.spawn(move || (0..4 * all.len()).for_each(|k| holds(&all[(k * 7 + t) % all.len()])));
         }
     });
 }
 
 #[test]
 fn a_stack_of_72_kib() {
-    let images: Vec<Vec<u8>> =
-        samples().iter().map(|n| sample(&format!("{n}.img"))).chain(heavy().iter().map(|c| image(c).unwrap())).collect();
-    let run = move || images.iter().map(|i| guarded(i, 8 * 65_536).0.unwrap_or_else(|r| r.number as usize)).sum::<usize>();
-    let roomy = run.clone()();
-    let small = thread::Builder::new().stack_size(72 << 10).spawn(run).unwrap().join().unwrap();
-    assert_eq!(small, roomy);
+    let all = all();
+    let run = move || all.iter().for_each(holds);
+    thread::Builder::new().stack_size(72 << 10).spawn(run).unwrap().join().unwrap();
 }
 
 #[test]
 fn a_long_function() {
-    let words = build(&heavy()[2]).unwrap();
-    assert!(words.len() > 2 * 4096, "{} words", words.len());
-    let (answer, bytes) = guarded(&image(&heavy()[2]).unwrap(), 8 * words.len() + 5);
+    let (img, words) = long();
+    assert_eq!(words.len(), 21_610);
+    let len = 8 * words.len() + 5;
+    let (answer, bytes) = guarded(&img, len);
     assert_eq!(answer, Ok(words.len()));
-    assert_eq!(&bytes[8 * words.len()..], [common::POISON; 5]);
+    assert_eq!(bytes, whole(&Ok(words), len));
 }

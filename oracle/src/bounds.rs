@@ -1,94 +1,13 @@
 // Each bound of document 01 at its edge and one over it.
-use crate::ast::{Contract, Expr, Stmt, Struct};
+use crate::ast::{Contract, Expr, Stmt};
 use crate::check::{check, Fault};
+use crate::edges::*;
 use crate::image::{encode, op_of};
 use crate::rng::Rng;
 use crate::tree::*;
 
 /// An edge: what it is, and its image.
 pub type Edge = (&'static str, Vec<u8>);
-
-fn named(n: usize) -> String {
-    format!("n{n}")
-}
-
-fn fields(n: usize) -> Vec<(String, String)> {
-    (0..n).map(|i| (named(i), "u64".to_string())).collect()
-}
-
-fn params(n: usize) -> Vec<crate::ast::Param> {
-    fields(n).into_iter().map(|(name, ty)| crate::ast::Param { name, ty }).collect()
-}
-
-fn storage(n: usize) -> Contract {
-    let last = named(n - 1);
-    let all = fields(n).iter().map(|(f, t)| field(f, t)).collect();
-    contract(all, vec![], vec![function("main", vec![], None, vec![does(read(&last)), map_write("n0", int(1), read(&last))])])
-}
-
-fn structs(n: usize) -> Contract {
-    let all = (0..n).map(|i| Struct { name: named(i), fields: vec![field("f", "u64")] }).collect();
-    contract(vec![], all, vec![function("main", vec![], None, vec![does(access(literal(&named(n - 1), vec![]), "f"))])])
-}
-
-fn struct_fields(n: usize) -> Contract {
-    let all = fields(n).iter().map(|(f, t)| field(f, t)).collect();
-    let last = named(n - 1);
-    let body = vec![does(access(literal("S", vec![(&last, int(1))]), &last))];
-    contract(vec![], vec![Struct { name: "S".into(), fields: all }], vec![function("main", vec![], None, body)])
-}
-
-fn functions(n: usize) -> Contract {
-    let mut all: Vec<_> = (1..n).map(|i| function(&named(i), vec![], None, vec![])).collect();
-    let body = vec![does(call(&named(n - 1), vec![])), does(call("n1", vec![]))];
-    all.insert(n / 2, function("main", vec![], None, body));
-    contract(vec![], vec![], all)
-}
-
-// Inits of one name, of a plain variable: they take no register.
-fn inits(n: usize) -> Contract {
-    let all = (0..n).map(|_| ("f", id("x0"))).collect();
-    let body = vec![let_("x0", int(1)), does(literal("S", all))];
-    contract(vec![], vec![structure("S", vec![("f", "u64")])], vec![function("main", vec![], None, body)])
-}
-
-fn args(n: usize) -> Contract {
-    let mut c = main_of(vec![let_("x0", int(1)), does(call("f", (0..n).map(|_| id("x0")).collect()))]);
-    c.functions.push(function("f", vec![], None, vec![]));
-    c.functions[1].params = params(if n > 64 { 0 } else { n });
-    c
-}
-
-fn logged(n: usize) -> Contract {
-    main_of(vec![let_("x0", int(1)), emit("e", (0..n).map(|_| id("x0")).collect())])
-}
-
-// Names of one function: parameters, Fors and Lets that share one register.
-fn names(parameters: usize, fors: usize, lets: usize) -> Contract {
-    let mut body = Vec::new();
-    for i in 0..fors {
-        body.push(for_("i", id("n0"), id("n0"), vec![let_(&named(i), id("i"))]));
-    }
-    body.extend((fors..lets).map(|i| let_(&format!("x{i}"), id("n0"))));
-    let mut c = main_of(body);
-    c.functions[0].params = params(parameters);
-    c.functions.push(function("f", vec![], None, lets_of_one(3)));
-    c
-}
-
-fn lets_of_one(n: usize) -> Vec<Stmt> {
-    (0..n).map(|_| let_("x", int(1))).collect()
-}
-
-/// A contract of exactly `size` bytes: `Int` statements, and names to fill up.
-pub fn sized(size: usize) -> Contract {
-    let mut c = main_of(vec![]);
-    let empty = encode(&c).len();
-    c.functions[0].body = (0..(size - empty - 13) / 20).map(|i| does(int(i as u64))).collect();
-    let left = size - encode(&c).len();
-    c.functions[0].body.push(emit(&"e".repeat(left + 1 - 19), vec![]));
-    c
-}
 
 /// An expression whose record is `height` records high.
 pub fn high(rng: &mut Rng, height: usize) -> Expr {
@@ -101,15 +20,6 @@ pub fn high(rng: &mut Rng, height: usize) -> Expr {
         (_, 4) => binary(int(2), op_of(rng.below(10) as u8), high(rng, height - 1)),
         (5.., 5) => access(literal("S", vec![("f", high(rng, height - 4))]), "f"),
         _ => binary(high(rng, height - 1), op_of(rng.below(10) as u8), int(3)),
-    }
-}
-
-fn fits(e: Expr) -> Expr {
-    // A literal stands where a number is due only behind its field.
-    if matches!(e, Expr::StructLiteral(..)) {
-        access(e, "f")
-    } else {
-        e
     }
 }
 
@@ -132,44 +42,14 @@ pub fn deep(rng: &mut Rng, depth: usize) -> Contract {
     contract(vec![field("m", "u64")], vec![structure("S", vec![("f", "u64")])], all)
 }
 
-// Left operands nested: one register, any depth.
-fn left_deep(depth: usize) -> Contract {
-    let e = (0..depth - 6).fold(int(1), |e, i| add(fits(e), int(i as u64)));
-    main_of(vec![does(e)])
+fn pairs(out: &mut Vec<(&'static str, Contract)>, what: [&'static str; 2], most: usize, of: fn(usize) -> Contract) {
+    out.push((what[0], of(most)));
+    out.push((what[1], of(most + 1)));
 }
 
-fn nested_ifs(depth: usize) -> Contract {
-    let body = (0..(depth - 4) / 2).fold(vec![], |b, _| vec![if_(int(1), b, None)]);
-    main_of(body)
-}
-
-// Calls one in the other, each behind 63 arguments: as wide as deep.
-fn wide_calls() -> Contract {
-    let x = || (0..63).map(|_| id("x")).collect::<Vec<_>>();
-    let e = (0..28).fold(id("x"), |e, _| call("f", [x(), vec![e]].concat()));
-    let mut c = contract(vec![], vec![], vec![function("main", vec![("x", "u64")], None, vec![does(e)])]);
-    c.functions.push(function("f", vec![], Some("u64"), vec![]));
-    c.functions[1].params = params(64);
-    c
-}
-
-// Literals one in the other, each behind 63 values.
-fn wide_literals() -> Contract {
-    let all = fields(64).iter().map(|(f, t)| field(f, if f == "n63" { "W" } else { t })).collect();
-    let inits = |e: Expr| (0..63).map(|i| (named(i), id("x"))).chain([(named(63), e)]).collect();
-    let e = (0..19).fold(id("w"), |e, _| Expr::StructLiteral("W".into(), inits(e)));
-    let main = function("main", vec![("x", "u64"), ("w", "W")], None, vec![does(e)]);
-    contract(vec![], vec![Struct { name: "W".into(), fields: all }], vec![main])
-}
-
-fn pairs(out: &mut Vec<Edge>, what: [&'static str; 2], most: usize, of: fn(usize) -> Contract) {
-    out.push((what[0], encode(&of(most))));
-    out.push((what[1], encode(&of(most + 1))));
-}
-
-/// All edges whose images are under 16 KB.
-pub fn small() -> Vec<Edge> {
-    let mut out = vec![("no bytes", vec![])];
+/// The edges that are trees, and whose images are under 16 KB.
+pub fn trees() -> Vec<(&'static str, Contract)> {
+    let mut out = vec![];
     pairs(&mut out, ["storage 256", "storage 257"], 256, storage);
     pairs(&mut out, ["structs 64", "structs 65"], 64, structs);
     pairs(&mut out, ["fields 64", "fields 65"], 64, struct_fields);
@@ -182,11 +62,27 @@ pub fn small() -> Vec<Edge> {
     pairs(&mut out, ["512 Lets", "513 Lets"], 511, |n| names(1, 0, n));
     pairs(&mut out, ["512 Fors and Lets", "513 Fors and Lets"], 412, |n| names(1, 99, n));
     pairs(&mut out, ["512 parameters", "513 parameters"], 512, |n| names(n, 0, 0));
-    out.push(("last name over is a For", encode(&names(1, 256, 256))));
-    out.push(("a name of 64", encode(&Contract { name: "x".repeat(64), ..main_of(vec![]) })));
-    out.push(("a name of 65", encode(&Contract { name: "x".repeat(65), ..main_of(vec![]) })));
-    out.extend(returns());
+    out.push(("last name over is a For", names(1, 256, 256)));
+    pairs(&mut out, ["a name of 64", "a name of 65"], 64, |n| Contract { name: "x".repeat(n), ..main_of(vec![]) });
     out
+}
+
+/// The trees at the bound of bytes, and of stack.
+pub fn large_trees() -> Vec<(&'static str, Contract)> {
+    let mut out = vec![];
+    pairs(&mut out, ["65,536 bytes", "65,537 bytes"], 65_536, sized);
+    out.push(("calls of 64 arguments, 28 deep", wide_calls()));
+    out.push(("literals of 64 values, 19 deep", wide_literals()));
+    out
+}
+
+fn encoded(trees: Vec<(&'static str, Contract)>) -> Vec<Edge> {
+    trees.into_iter().map(|(what, tree)| (what, encode(&tree))).collect()
+}
+
+/// All edges whose images are under 16 KB.
+pub fn small() -> Vec<Edge> {
+    [vec![("no bytes", vec![])], encoded(trees()), returns()].concat()
 }
 
 /// The first record over a bound or too deep, with a wrong length, kind or first part besides.
@@ -254,14 +150,9 @@ pub fn all() -> Vec<Edge> {
 
 /// Images at the bound of bytes, and of stack.
 pub fn large() -> Vec<Edge> {
-    let over = encode(&sized(65_537));
-    let mut cut = over.clone();
+    let mut out = encoded(large_trees());
+    let mut cut = out[1].1.clone();
     cut.pop();
-    vec![
-        ("65,536 bytes", encode(&sized(65_536))),
-        ("65,537 bytes", over),
-        ("65,537 bytes cut by one", cut),
-        ("calls of 64 arguments, 28 deep", encode(&wide_calls())),
-        ("literals of 64 values, 19 deep", encode(&wide_literals())),
-    ]
+    out.insert(2, ("65,537 bytes cut by one", cut));
+    out
 }

@@ -3,7 +3,7 @@ use crate::codegen::Codegen;
 use crate::generation::Program;
 use crate::model::{ambiguous, analysed, program, Refusal};
 use crate::sema::SemanticAnalyzer;
-use crate::{check, generation, grammar, image, places, CompileError};
+use crate::{ast::Contract, check, generation, grammar, image, places, writer, CompileError};
 use std::fmt::Debug;
 
 /// The Rust's error as "Variant: text".
@@ -42,6 +42,7 @@ pub fn hold(img: &[u8]) -> Result<Program, Refusal> {
     fast?;
     let tree = image::decode(img);
     same(img, "writing what was read", &image::encode(&tree)[..], img);
+    hold_writer(&tree);
     let mut sema = SemanticAnalyzer::new();
     let rust = sema.analyze(&tree).map_err(|e| told(&e)).err().unwrap_or_default();
     let ours = analysed(img);
@@ -54,6 +55,13 @@ pub fn hold(img: &[u8]) -> Result<Program, Refusal> {
     hold_ambiguous(img, &words);
     hold_words(img, ours, words);
     program(img)
+}
+
+/// The crate's writer: the oracle's image, and none exactly where the check refuses that.
+pub fn hold_writer(tree: &Contract) {
+    let img = image::encode(tree);
+    let due = check::check(&img).is_ok().then_some(&img[..]);
+    same(&img, "the crate's writer", due, writer::image(tree).ok().as_deref());
 }
 
 // 30: the Rust's words change from run to run, and by the access at the place; an error hides it.

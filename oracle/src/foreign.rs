@@ -15,6 +15,8 @@ extern "C" {
     fn hasp_build(img: *const u8, len: usize, code: *mut u64, room: usize, table: *mut u64, numbers: usize) -> u64;
     #[cfg(feature = "host")]
     fn host_build(img: *const u8, len: usize, out: *mut u8, room: usize) -> u64;
+    #[cfg(feature = "host")]
+    fn host_analyse(img: *const u8, len: usize) -> u64;
 }
 
 pub const CHECK: bool = cfg!(feature = "check");
@@ -52,6 +54,13 @@ pub fn lib_host(_img: &[u8], _out: &mut [u8]) -> u64 {
     0
 }
 
+pub fn lib_host_analyse(_img: &[u8]) -> u64 {
+    #[cfg(feature = "host")]
+    return unsafe { host_analyse(_img.as_ptr(), _img.len()) };
+    #[cfg(not(feature = "host"))]
+    0
+}
+
 /// Compares what is linked over n seeds and every edge, on a thread with a stack of HASP_STACK bytes (2 MiB).
 pub fn compare(n: u64, seed: u64) -> Result<(), String> {
     if !ANY {
@@ -80,9 +89,12 @@ fn one(img: &[u8]) -> Result<(), String> {
         let ours = check::check(img).map_or_else(|f| Answer::of(&f.into()).packed(), |_| 0);
         same(img, "check", ours, lib_check(img))?;
     }
+    let ours = analysed(img).map_or_else(|r| Answer::of(&r).packed(), |_| 0);
     if ANALYSE {
-        let ours = analysed(img).map_or_else(|r| Answer::of(&r).packed(), |_| 0);
         same(img, "analyse", ours, lib_analyse(img))?;
+    }
+    if HOST {
+        same(img, "host_analyse", ours, lib_host_analyse(img))?;
     }
     if !BUILD && !HOST {
         return Ok(());

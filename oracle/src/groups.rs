@@ -1,6 +1,6 @@
 // Groups of accepted images to time.
 use crate::ast::{Contract, Expr, Struct};
-use crate::bounds;
+use crate::edges;
 use crate::gen::{self, Shape};
 use crate::image::encode;
 use crate::model::program;
@@ -23,7 +23,7 @@ pub fn all() -> Vec<Group> {
         one("40 structs, 600 accesses", accesses()),
         ("deep: expressions 50, statements 28", vec![encode(&deep_expr()), encode(&deep_stmt())]),
         one("400 locals, 800 uses", locals()),
-        one("3,276 statements, 64 KiB", bounds::sized(65_536)),
+        one("3,276 statements, 64 KiB", edges::sized(65_536)),
         one("largest program", largest()),
     ];
     for (name, images) in &groups {

@@ -23,8 +23,15 @@ mod rng;
 mod samples;
 mod selfcheck;
 mod store;
-mod tree;
 mod tricks;
+
+// The crate's own: its writer, and what its tests build trees with.
+#[path = "../../host/tests/common/edges.rs"]
+mod edges;
+#[path = "../../host/tests/common/tree.rs"]
+mod tree;
+#[path = "../../host/src/image.rs"]
+mod writer;
 
 // The Rust, unchanged.
 #[allow(warnings)]

@@ -22,6 +22,9 @@ struct Hits {
 pub fn run(seeds: u64) -> Result<(), String> {
     let mut hits = Hits::default();
     samples_hold()?;
+    for (_, tree) in bounds::trees().iter().chain(&bounds::large_trees()) {
+        compare::hold_writer(tree);
+    }
     for (_, img) in &bounds::all() {
         hold(img, &mut hits)?;
     }

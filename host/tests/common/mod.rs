@@ -1,5 +1,10 @@
-//! Slices of poison with poison on both sides, and the samples of document 01.
-#![allow(dead_code)]
+//! Slices of poison with poison on both sides, the samples of document 01, the stored answers, and trees.
+#![allow(dead_code)] // no test uses all of it
+
+pub mod edges;
+pub mod tree;
+
+pub use haspnettle::ast;
 
 use haspnettle::{build_into, Refusal};
 use std::path::PathBuf;
@@ -7,20 +12,25 @@ use std::path::PathBuf;
 pub const POISON: u8 = 0xA5;
 const GUARD: usize = 64;
 
+/// Number, place and count of a refusal.
+pub type Told = (u8, u32, u32);
+
+pub fn told(r: Refusal) -> Told {
+    (r.number, r.place, r.count)
+}
+
 /// Builds into `len` bytes of poison, and sees that nothing around them is touched.
-pub fn guarded(image: &[u8], len: usize) -> (Result<usize, Refusal>, Vec<u8>) {
+pub fn guarded(image: &[u8], len: usize) -> (Result<usize, Told>, Vec<u8>) {
     let mut bytes = vec![POISON; len + 2 * GUARD];
     let answer = build_into(image, &mut bytes[GUARD..GUARD + len]);
     assert!(bytes[..GUARD].iter().all(|b| *b == POISON), "bytes before the slice were written");
     assert!(bytes[GUARD + len..].iter().all(|b| *b == POISON), "bytes behind the slice were written");
-    (answer, bytes[GUARD..GUARD + len].to_vec())
+    (answer.map_err(told), bytes[GUARD..GUARD + len].to_vec())
 }
 
 /// What the slice holds: the words and then poison, or zeros.
-pub fn whole(answer: &Result<usize, Refusal>, words: &[u64], len: usize) -> Vec<u8> {
-    if answer.is_err() {
-        return vec![0; len];
-    }
+pub fn whole(says: &Result<Vec<u64>, Told>, len: usize) -> Vec<u8> {
+    let Ok(words) = says else { return vec![0; len] };
     let mut bytes: Vec<u8> = words.iter().flat_map(|w| w.to_le_bytes()).collect();
     bytes.resize(len, POISON);
     bytes
@@ -42,4 +52,48 @@ pub fn samples() -> Vec<String> {
     let mut out: Vec<String> = names.filter_map(|n| n.strip_suffix(".img").map(String::from)).collect();
     out.sort();
     out
+}
+
+/// What a sample's listing says: words, or refusal, place and count.
+pub fn listed(name: &str) -> Result<Vec<u64>, Told> {
+    let text = String::from_utf8(sample(&format!("{name}.listing"))).unwrap();
+    let numbers = |line: &str| -> Vec<u32> { line.split(' ').skip(1).map(|n| n.parse().unwrap()).collect() };
+    let mut lines = text.lines();
+    let first = lines.next().unwrap();
+    if first.starts_with("refused ") {
+        let n = numbers(first);
+        return Err((n[0] as u8, n[1], n[2]));
+    }
+    let words: Vec<u64> = lines.map(|l| u64::from_str_radix(l.split(' ').nth(1).unwrap(), 16).unwrap()).collect();
+    assert_eq!(numbers(first), [words.len() as u32]);
+    Ok(words)
+}
+
+/// A stored answer of the Rust (docs/STORED.md): what was asked, the build's answer, and analyse's refusal and place.
+pub struct Case {
+    pub image: Vec<u8>,
+    pub room: usize,
+    pub built: Told,
+    pub checksum: u64,
+    pub analysed: (u8, u32),
+}
+
+pub fn stored() -> Vec<Case> {
+    let file = std::fs::read(repository().join("crates/replay/stdin")).unwrap();
+    let number = |at: usize| u32::from_le_bytes(file[at..at + 4].try_into().unwrap());
+    assert_eq!(&file[..8], b"HASPANS1");
+    let (mut at, mut all) = (32, vec![]);
+    for _ in 0..number(8) {
+        let end = at + 48 + number(at) as usize;
+        all.push(Case {
+            image: file[at + 48..end].to_vec(),
+            room: number(at + 4) as usize,
+            built: (number(at + 12) as u8, number(at + 16), number(at + 20)),
+            checksum: u64::from_le_bytes(file[at + 24..at + 32].try_into().unwrap()),
+            analysed: (number(at + 40) as u8, number(at + 44)),
+        });
+        at = end;
+    }
+    assert_eq!((at, number(12) as usize), (file.len(), file.len()));
+    all
 }

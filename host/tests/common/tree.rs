@@ -1,5 +1,7 @@
-// Short hands for trees of the Rust.
-use crate::ast::{BinOp, Contract, Expr, Function, Param, Stmt, StorageField, Struct};
+//! Short hands for trees: of this crate here, of the Rust in `oracle/`.
+#![allow(dead_code)] // who includes it need not use all of it
+
+use super::ast::{BinOp, Contract, Expr, Function, Param, Stmt, StorageField, Struct};
 
 pub fn int(v: u64) -> Expr {
     Expr::Int(v)
