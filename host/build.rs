@@ -8,10 +8,11 @@ fn main() {
     if env::var("CARGO_CFG_TARGET_ARCH").as_deref() != Ok("x86_64") {
         fail("the proved library is x86-64 code: build with --target x86_64-unknown-linux-gnu");
     }
+    let here = PathBuf::from(env::var_os("CARGO_MANIFEST_DIR").unwrap());
     let library = match env::var_os("HASPNETTLE_LIB").map(PathBuf::from) {
         Some(given) if given.is_file() => given,
-        Some(given) => fail(&format!("HASPNETTLE_LIB: {} is no file", given.display())),
-        None => made(),
+        Some(given) => fail(&format!("HASPNETTLE_LIB: {} is no file, seen from {}", given.display(), here.display())),
+        None => made(here.parent().unwrap_or_else(|| fail("the crate's folder has none above it"))),
     };
     // Under a name of its own, so that no other libhost is taken.
     let out = PathBuf::from(env::var_os("OUT_DIR").unwrap());
@@ -24,9 +25,7 @@ fn main() {
 }
 
 // The repository's library, proved and made where it is not there yet; one that is older than what it is made of is not taken.
-fn made() -> PathBuf {
-    let here = PathBuf::from(env::var_os("CARGO_MANIFEST_DIR").unwrap());
-    let root = here.parent().unwrap_or_else(|| fail("the crate's folder has none above it"));
+fn made(root: &Path) -> PathBuf {
     let library = root.join("target/staticlib/libhost.a");
     if !library.is_file() {
         make(root, &library);

@@ -51,16 +51,13 @@ fn link() {
     if !asked {
         return;
     }
-    match env::var("HASP_LIB") {
-        Ok(lib) if Path::new(&lib).is_file() => {
-            println!("cargo::rerun-if-changed={lib}");
-            println!("cargo::rustc-link-arg-bins={lib}");
-        }
-        _ => fail("a feature asks for the static library: set HASP_LIB to its file"),
-    }
+    let given = env::var("HASP_LIB").unwrap_or_else(|_| fail("a feature asks for the static library: set HASP_LIB to its file"));
+    let lib = fs::canonicalize(&given).unwrap_or_else(|e| fail(&format!("HASP_LIB: {given}, seen from oracle/: {e}")));
+    println!("cargo::rerun-if-changed={}", lib.display());
+    println!("cargo::rustc-link-arg-bins={}", lib.display());
 }
 
 fn fail(line: &str) -> ! {
     println!("cargo::error={line}");
-    process::exit(0)
+    process::exit(1)
 }

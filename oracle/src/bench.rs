@@ -1,7 +1,7 @@
 // Times of the unchanged Rust and of the linked library, in one process: least of several rounds.
 use crate::codegen::Codegen;
 use crate::foreign::{self, ANALYSE, BUILD, CHECK, HOST};
-use crate::groups::{all, Group};
+use crate::groups::{self, Group};
 use crate::model::program;
 use crate::sema::SemanticAnalyzer;
 use crate::{check, image};
@@ -29,50 +29,79 @@ fn time(reps: u32, work: &mut impl FnMut()) -> Duration {
     start.elapsed()
 }
 
+/// Microseconds an image of a group: the Rust's check, decode, analyze and generate; the library's check, analyse, build and host, where linked.
+struct Times {
+    group: String,
+    rust: [f64; 4],
+    library: [Option<f64>; 4],
+}
+
+/// Prints the table of docs/BENCHMARKS.md, and behind it the times that it is made of.
 pub fn run(rounds: u64) -> Result<(), String> {
-    println!(
-        "Microseconds an image, least of {rounds} rounds. Rust: the oracle's check and reader, then sema.rs and codegen.rs unchanged."
-    );
-    println!("Ratios: library / Rust; `of all` is against check + decode + analyze (+ generate), `of tree` against the Rust that is handed the tree.\n");
-    println!("| group | bytes | words | check | decode | analyze | generate | lib check (ratio) | lib analyse (of all, of tree) | lib build (of all, of tree) | lib host (of all) |");
+    println!("Library / Rust, least of {rounds} rounds. Of all: against check, decode, analyze (and generate); of tree: against the Rust that is handed the tree.\n");
+    println!("| group | bytes | words | our check / the oracle's | analyse: of all | build: of all | build: of tree | host: of all | host: of tree |");
+    println!("|---|---|---|---|---|---|---|---|---|");
+    let mut all = Vec::new();
+    for group in groups::all() {
+        let times = times(&group, rounds);
+        println!("{}", ratios(&times));
+        all.push(times);
+    }
+    println!("\nMicroseconds an image:\n");
+    println!("| group | bytes | words | check | decode | analyze | generate | our check | our analyse | our build | our host |");
     println!("|---|---|---|---|---|---|---|---|---|---|---|");
-    all().iter().for_each(|g| println!("{}", row(g, rounds)));
+    for t in &all {
+        let cells = t.rust.iter().map(|r| Some(*r)).chain(t.library).map(cell);
+        println!("| {} | {} |", t.group, cells.collect::<Vec<_>>().join(" | "));
+    }
     Ok(())
 }
 
-fn row((name, images): &Group, rounds: u64) -> String {
+fn cell(number: Option<f64>) -> String {
+    number.map_or("-".into(), |n| format!("{n:.2}"))
+}
+
+fn ratios(t: &Times) -> String {
+    let [check, decode, analyze, generate] = t.rust;
+    let [our_check, our_analyse, our_build, our_host] = t.library;
+    let analysed = check + decode + analyze;
+    let (all, tree) = (analysed + generate, analyze + generate);
+    let pairs = [(our_check, check), (our_analyse, analysed), (our_build, all), (our_build, tree), (our_host, all), (our_host, tree)];
+    let cells: Vec<String> = pairs.iter().map(|(ours, rust)| cell(ours.map(|o| o / rust))).collect();
+    format!("| {} | {} |", t.group, cells.join(" | "))
+}
+
+// 65536 as 65,536.
+fn grouped(n: usize) -> String {
+    match n {
+        0..=999 => n.to_string(),
+        _ => format!("{},{:03}", grouped(n / 1000), n % 1000),
+    }
+}
+
+fn times((name, images): &Group, rounds: u64) -> Times {
     let clock = Clock { rounds, images: images.len() };
     let trees: Vec<_> = images.iter().map(|i| image::decode(i)).collect();
     let words: Vec<usize> = images.iter().map(|i| program(i).map_or(0, |p| p.words.len())).collect();
-    let check = clock.least(|| images.iter().for_each(|i| _ = black_box(check::check(black_box(i)))));
-    let decode = clock.least(|| images.iter().for_each(|i| _ = black_box(image::decode(black_box(i)))));
-    let analyze = clock.least(|| trees.iter().for_each(|t| _ = black_box(SemanticAnalyzer::new().analyze(black_box(t)))));
-    let generate = clock.least(|| trees.iter().for_each(|t| _ = black_box(Codegen::new().generate(black_box(t)))));
-    let bytes = images.iter().map(Vec::len).sum::<usize>() / images.len();
-    let count = words.iter().sum::<usize>() / images.len();
-    let rust = [check, decode, analyze, generate];
-    format!(
-        "| {name} | {bytes} | {count} | {check:.2} | {decode:.2} | {analyze:.2} | {generate:.2} | {}",
-        library(images, &words, rust, &clock)
-    )
+    let rust = [
+        clock.least(|| images.iter().for_each(|i| _ = black_box(check::check(black_box(i))))),
+        clock.least(|| images.iter().for_each(|i| _ = black_box(image::decode(black_box(i))))),
+        clock.least(|| trees.iter().for_each(|t| _ = black_box(SemanticAnalyzer::new().analyze(black_box(t))))),
+        clock.least(|| trees.iter().for_each(|t| _ = black_box(Codegen::new().generate(black_box(t))))),
+    ];
+    let mean = |sum: usize| grouped(sum / images.len());
+    let group = format!("{name} | {} | {}", mean(images.iter().map(Vec::len).sum()), mean(words.iter().sum()));
+    Times { group, rust, library: library(images, &words, &clock) }
 }
 
-fn library(images: &[Vec<u8>], words: &[usize], [check, decode, analyze, generate]: [f64; 4], clock: &Clock) -> String {
+fn library(images: &[Vec<u8>], words: &[usize], clock: &Clock) -> [Option<f64>; 4] {
     let most = *words.iter().max().expect("an image");
     let (mut code, mut table, mut bytes) = (vec![0u64; most], vec![0u64; 3 * 256], vec![0u8; 8 * most]);
-    let upto = check + decode + analyze;
-    let mut cells = Vec::new();
-    let mut cell = |linked: bool, against: &[f64], work: &mut dyn FnMut(&[u8])| {
-        if !linked {
-            return cells.push("-".to_string());
-        }
-        let t = clock.least(|| images.iter().for_each(|i| work(black_box(i))));
-        let ratios: Vec<String> = against.iter().map(|a| format!("{:.2}", t / a)).collect();
-        cells.push(format!("{t:.2} ({})", ratios.join(", ")));
-    };
-    cell(CHECK, &[check], &mut |i| _ = black_box(foreign::lib_check(i)));
-    cell(ANALYSE, &[upto, analyze], &mut |i| _ = black_box(foreign::lib_analyse(i)));
-    cell(BUILD, &[upto + generate, analyze + generate], &mut |i| _ = black_box(foreign::lib_build(i, &mut code, &mut table)));
-    cell(HOST, &[upto + generate], &mut |i| _ = black_box(foreign::lib_host(i, &mut bytes)));
-    format!("{} |", cells.join(" | "))
+    let least = |linked: bool, work: &mut dyn FnMut(&[u8])| linked.then(|| clock.least(|| images.iter().for_each(|i| work(black_box(i)))));
+    [
+        least(CHECK, &mut |i| _ = black_box(foreign::lib_check(i))),
+        least(ANALYSE, &mut |i| _ = black_box(foreign::lib_analyse(i))),
+        least(BUILD, &mut |i| _ = black_box(foreign::lib_build(i, &mut code, &mut table))),
+        least(HOST, &mut |i| _ = black_box(foreign::lib_host(i, &mut bytes))),
+    ]
 }

@@ -6,6 +6,7 @@ use crate::{bounds, cases, check, compare, generation::Program};
 const POISON: u64 = 0xA5A5_A5A5_A5A5_A5A5;
 const GUARD: usize = 16;
 
+// SAFETY of every call below: the slices are live for the call and apart, and the library keeps no pointer.
 extern "C" {
     #[cfg(feature = "check")]
     fn hasp_check(img: *const u8, len: usize) -> u64;
