@@ -113,7 +113,7 @@ impl Writer {
         self.bytes.extend(kind.to_le_bytes());
         payload(self)?;
         let length = u32::try_from(self.bytes.len() - at - 4).map_err(|_| Unwritable::TooLong { bytes: self.bytes.len() })?;
-        self.bytes[at..at + 4].copy_from_slice(&length.to_le_bytes());
+        self.bytes.iter_mut().skip(at).zip(length.to_le_bytes()).for_each(|(byte, due)| *byte = due);
         self.depth -= 1;
         Ok(())
     }

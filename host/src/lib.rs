@@ -2,7 +2,7 @@
 //!
 //! The compiler behind this crate is written in Rattle and proved: for any bytes whatsoever the answer and every byte of the slice
 //! that is lent are those of its definition (`crates/rules/specs/Build.antt`, `hostOf` and `hostBytes`). It needs no heap, keeps no
-//! state and takes less than 72 KiB of stack, so it may be called from any number of threads at once.
+//! state and takes less than 72 KiB of stack, so it may be called from any number of threads at once. No function here panics.
 //!
 //! From a tree:
 //!
@@ -29,10 +29,11 @@
 //! assert!(out[8 * count..].iter().all(|b| *b == 0xAA));
 //! ```
 
-#![deny(missing_debug_implementations, missing_docs)]
+#![deny(missing_debug_implementations, missing_docs, unsafe_code)]
 
 pub mod ast;
 mod image;
+#[allow(unsafe_code)]
 mod raw;
 mod refusal;
 
