@@ -18,7 +18,7 @@ fn heavy() -> Vec<Contract> {
     let g = function("g", vec![("a", "u64")], Some("u64"), vec![]);
     let main = |body| function("main", vec![], None, body);
     vec![
-        main_of(vec![does(deep)]),
+        contract(vec![field("m", "u64")], vec![], vec![main(vec![does(deep)])]),
         main_of(nested),
         contract(vec![], vec![], vec![main(vec![does(call_deep)]), g]),
         contract(vec![], vec![], vec![main(vec![emit("e", vec![call("g", vec![]); 20])]), function("g", vec![], None, vec![])]),
