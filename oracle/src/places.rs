@@ -69,14 +69,8 @@ pub fn renamed(img: &[u8], from: usize) -> Vec<u8> {
     top.image()
 }
 
-// What stands in the statement before the expression passes; with the expression the Rust errs.
-fn in_statement(
-    stmt: &Node,
-    here: &Node,
-    r: &Refusal,
-    with: &dyn Fn(Vec<Node>) -> Result<String, String>,
-    spared: &dyn Fn(&str) -> bool,
-) -> Result<(), String> {
+// What stands in the statement before the expression, and the expression with what its error needs around it.
+fn split(stmt: &Node, here: &Node, r: &Refusal) -> Result<(Vec<Node>, Node), String> {
     let mut earlier = Vec::new();
     former(stmt, r.place, &mut earlier);
     let mut last = here.clone();
@@ -101,6 +95,18 @@ fn in_statement(
         18 | 47 => {}
         _ => inner(here, &mut earlier),
     }
+    Ok((earlier, last))
+}
+
+// What stands in the statement before the expression passes; with the expression the Rust errs.
+fn in_statement(
+    stmt: &Node,
+    here: &Node,
+    r: &Refusal,
+    with: &dyn Fn(Vec<Node>) -> Result<String, String>,
+    spared: &dyn Fn(&str) -> bool,
+) -> Result<(), String> {
+    let (earlier, last) = split(stmt, here, r)?;
     let mut list: Vec<Node> = earlier.into_iter().map(does).collect();
     let before = with(list.clone())?;
     if !spared(&before) {
