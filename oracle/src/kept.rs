@@ -107,14 +107,15 @@ fn control() -> Vec<Kept> {
             "a Let in `else` takes an outer name over in `then` too",
             main_of(vec![let_("x", int(2)), if_(int(1), vec![constrain(id("x"))], Some(x(int(3))))]),
         ),
-        ("after both arms a name has the type of `else` and the register of `then`", {
-            with(s(), vec![if_(int(1), x(int(5)), Some(x(s_of(7)))), constrain(access(id("x"), "x"))])
-        }),
+        (
+            "after both arms a name has the type of `else` and the register of `then`",
+            with(s(), vec![if_(int(1), x(int(5)), Some(x(s_of(7)))), constrain(access(id("x"), "x"))]),
+        ),
         (
             "a While's condition is made in the registers of the names let in its body",
             main_of(vec![let_("i", int(0)), once, constrain(id("x"))]),
         ),
-        ("an assignment to a For's name changes its turns", main_of(vec![for_("i", int(0), int(1), vec![assign("i", int(0))])])),
+        ("an assignment to a For's name changes its turns", main_of(vec![for_("i", int(0), int(2), vec![assign("i", int(0))])])),
         ("an Emit's arguments are logged one by one, without its name", beside(logs, vec![emit("e", vec![int(1), call("f", vec![])])])),
     ]
 }

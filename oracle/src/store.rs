@@ -1,13 +1,15 @@
 // Stored answers: a flat file of cases for a replay without Rust (docs/STORED.md), and the samples.
 use crate::ast::Stmt;
+use crate::gen::{contract, tiny};
 use crate::generation::Program;
-use crate::image::{encode, is_leaf, rec_at, u32_at, Rec};
+use crate::image::*;
 use crate::model::{analysed, build, program, Answer, Refusal};
+use crate::node::Node;
 use crate::rng::Rng;
 use crate::samples::{ROOM, TABLE};
 use crate::selfcheck::EVERY;
 use crate::tree::{if_, int, main_of};
-use crate::{bounds, cases, compare, damage, samples, tricks};
+use crate::{bounds, cases, compare, damage, kept, samples, tricks};
 use std::collections::{BTreeMap, BTreeSet};
 
 const MAGIC: &[u8; 8] = b"HASPANS1";
@@ -17,11 +19,14 @@ const CODE_POISON: u64 = 0xA5A5_A5A5_A5A5_A5A5;
 const TABLE_POISON: u64 = 0x5A5A_5A5A_5A5A_5A5A;
 /// The first seed that is looked at.
 const SEED: u64 = 1_000_000;
-const SEEDS: u64 = 60_000;
+const SEEDS: u64 = 200_000;
+/// At least so many of each refusal but 1, whose images are over 65,536 bytes.
+const EACH: usize = 40;
 const LEAST: usize = 2_000;
-/// The most bytes of an image among the small and the larger cases.
+/// The most bytes of an image: small, larger, too deep, over a bound.
 const SMALL: usize = 310;
 const LARGER: usize = 1_000;
+const DEEPER: usize = 1_500;
 const WORSE: usize = 2_500;
 
 /// The answer as document 01's listing program prints it.
@@ -67,6 +72,7 @@ pub fn store(dir: &str) -> Result<(), String> {
     let mut all = Stored::default();
     samples::all().iter().for_each(|s| all.case(&s.image, s.room.min(64), s.table.min(16)));
     tricks::all().iter().for_each(|img| all.case(img, 128, 16));
+    kept::all().iter().for_each(|(_, c)| all.case(&encode(c), 128, 16));
     all.changed(&samples::all()[0].image, &encode(&main_of(vec![Stmt::Return(None), if_(int(1), vec![], None)])));
     for (_, img) in bounds::small().iter().chain(&bounds::large()[..2]) {
         all.case(img, ROOM, TABLE);
@@ -151,18 +157,22 @@ impl Stored {
 
     // Small images from seeds, so many of each number, then a few larger ones.
     fn seeds(&mut self) {
-        self.quotas(cases::tiny_image, SMALL, |n| if n == 0 { 600 } else { 40 });
+        self.quotas(cases::tiny_image, SMALL, |n| if n == 0 { 600 } else { EACH });
         self.quotas(cases::image, LARGER, |n| match n {
             0 => 18,
-            6 => 12,
             41 => 25,
             _ => 2,
         });
+        self.quotas(too_deep, DEEPER, |n| if n == 6 { EACH } else { 0 });
+        self.quotas(too_many, WORSE, |n| if n == 7 { EACH / 2 } else { 0 });
     }
 
     fn quotas(&mut self, image: fn(u64) -> Vec<u8>, most: usize, quota: fn(u32) -> usize) {
         let mut left: BTreeMap<u32, usize> = EVERY.into_iter().map(|n| (n, quota(n))).collect();
         for seed in SEED..SEED + SEEDS {
+            if left.values().all(|n| *n == 0) {
+                return;
+            }
             let img = image(seed);
             let p = program(&img);
             let number = p.as_ref().map_or_else(|r| r.number, |_| 0);
@@ -177,13 +187,40 @@ impl Stored {
     }
 
     fn complete(&self) -> Result<(), String> {
-        let lacking: Vec<u32> = EVERY.into_iter().filter(|n| !self.given.contains_key(n)).collect();
+        let due = |n| if n == 1 { 1 } else { EACH };
+        let lacking: Vec<u32> = EVERY.into_iter().filter(|n| self.given.get(n).is_none_or(|k| *k < due(*n))).collect();
         let unused: Vec<u16> = (32..=42).chain(64..=71).filter(|k| !self.built.contains(k)).collect();
         if self.count < LEAST as u32 || !lacking.is_empty() || !unused.is_empty() {
-            return Err(format!("{} cases, without {lacking:?}, without built kinds {unused:?}", self.count));
+            return Err(format!("{} cases, too few of {lacking:?}, without built kinds {unused:?}", self.count));
         }
         Ok(())
     }
+}
+
+// A contract with a record at depth 65.
+fn too_deep(seed: u64) -> Vec<u8> {
+    let mut rng = Rng::new(seed);
+    let depth = rng.within(65, 66);
+    encode(&bounds::deep(&mut rng, depth))
+}
+
+// A small sound contract with one list grown past its bound: return types, fields, Inits or arguments.
+fn too_many(seed: u64) -> Vec<u8> {
+    let mut rng = Rng::new(seed);
+    let shape = tiny(&mut rng, 0);
+    let img = encode(&contract(&mut rng, shape));
+    let mut top = Node::read(&img, rec_at(&img, 0));
+    let mut at = rng.below(top.count());
+    let n = top.numbered(&mut at).expect("a node");
+    let (list, most) = match n.kind {
+        FUNCTION => (2, 1),
+        STRUCT | STRUCT_LITERAL | CALL => (1, 64),
+        _ => return img,
+    };
+    if let Some(part) = n.parts[list].parts.last().cloned() {
+        n.parts[list].parts.resize(most + 1, part);
+    }
+    top.image()
 }
 
 // Rooms for a program: mostly a few more than it needs; some exact, short or none.
