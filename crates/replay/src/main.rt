@@ -1,8 +1,14 @@
-// The stored answers of the Rust (docs/STORED.md) on standard input, held against build and analyse: how many there are and how many differ.
+// The stored answers of the Rust (docs/STORED.md) on standard input, held against build, build_entries and analyse: how many there are and how many differ.
 ghost use Prim.Native.Nat.{_≤_, _<_};
+use entries::Entry;
 use libc::STDIN_FILENO;
 use libc::STDOUT_FILENO;
 use rules::Answer;
+
+// What each word of the code slice and each number of the table is before a build.
+const WORD: u64 = 0xa5a5_a5a5_a5a5_a5a5;
+
+const NUMBER: u64 = 0x5a5a_5a5a_5a5a_5a5a;
 
 // What is stored of a case: the image's length, the rooms, and the answers.
 struct Case {
@@ -16,6 +22,12 @@ struct Case {
     entries: u64,
     analysis: u64,
     analysed: u64,
+}
+
+// What build_entries leaves.
+struct Made {
+    answer: Answer,
+    entries: [Entry; 256],
 }
 
 fn le64(s: &[u8], i: usize) -> u64
@@ -41,6 +53,9 @@ fn case_in(s: &[u8]) -> Case {
     }
 }
 
+// FNV-1a: where it starts.
+const START: u64 = 0xcbf2_9ce4_8422_2325;
+
 // FNV-1a: times 0x100000001B3, modulo 2^64.
 fn times(x: u64) -> u64 {
     let high = x / 4294967296;
@@ -62,13 +77,41 @@ fn hashed_word(h: u64, w: u64) -> u64 {
 }
 
 fn hashed(s: &[u64]) -> u64 {
-    let mut h = 0xcbf2_9ce4_8422_2325;
+    let mut h = START;
     let mut i = 0;
     while i < s.len() {
         h = hashed_word(h, s[i]);
         i += 1;
     }
     h
+}
+
+// The first n entries, three numbers each.
+fn hashed_entries(entries: [Entry; 256], n: usize) -> u64
+    requires { ⌜ n ≤ 256 ⌝ }
+{
+    let mut h = START;
+    let mut i = 0;
+    while i < n {
+        let e = entries[i];
+        h = hashed_word(h, e.place);
+        h = hashed_word(h, e.first);
+        h = hashed_word(h, e.params);
+        i += 1;
+    }
+    h
+}
+
+// Numbers that make no whole entry: a refusal clears them, else they stay.
+fn hashed_rest(h: u64, rest: usize, refusal: u64) -> u64 {
+    let w = if refusal == 0 { NUMBER } else { 0 };
+    let mut x = h;
+    let mut i = 0;
+    while i < rest {
+        x = hashed_word(x, w);
+        i += 1;
+    }
+    x
 }
 
 fn least(a: u64, b: usize) -> usize
@@ -121,14 +164,59 @@ fn roomed(case: Case, image: &[u8], code: &mut [u64], table: &mut [u64]) -> bool
     built(case, image, &mut code[..words], &mut table[..entries])
 }
 
-fn agrees(case: Case, image: &[u8]) -> bool {
-    let mut code = [0xa5a5_a5a5_a5a5_a5a5u64; 8192];
-    let mut table = [0x5a5a_5a5a_5a5a_5a5au64; 768];
-    if roomed(case, image, &mut code, &mut table) {
-        analysed(case, image)
+// The one function that lends entries, since its proof is by hand: they come and go by value.
+fn listed(image: &[u8], code: &mut [u64], entries: [Entry; 256], n: usize) -> Made
+    requires { ⌜ n ≤ 256 ⌝ }
+{
+    let mut table = entries;
+    let answer = entries::build::build_entries(image, code, &mut table[..n]);
+    Made {
+        answer,
+        entries: table,
+    }
+}
+
+// Whether build_entries, over the entries that so many numbers make, answers and leaves what is stored.
+fn entered(case: Case, image: &[u8], code: &mut [u64], numbers: usize) -> bool
+    requires { ⌜ numbers ≤ 768 ⌝ }
+{
+    let poison = Entry {
+        place: NUMBER,
+        first: NUMBER,
+        params: NUMBER,
+    };
+    let n = numbers / 3;
+    let made = listed(image, code, [poison; 256], n);
+    let answer = made.answer;
+    let entries = made.entries;
+    if numbered(case, answer) {
+        if hashed(code) != case.words {
+            return false;
+        }
+        let h = hashed_entries(entries, n);
+        hashed_rest(h, numbers % 3, answer.refusal) == case.entries
     } else {
         false
     }
+}
+
+// The same with the rooms that are stored.
+fn entered_roomed(case: Case, image: &[u8]) -> bool {
+    let mut code = [WORD; 8192];
+    let words = least(case.room, 8192);
+    let numbers = least(case.table, 768);
+    entered(case, image, &mut code[..words], numbers)
+}
+
+fn agrees(case: Case, image: &[u8]) -> bool {
+    let mut code = [WORD; 8192];
+    let mut table = [NUMBER; 768];
+    if roomed(case, image, &mut code, &mut table) {
+        if entered_roomed(case, image) {
+            return analysed(case, image);
+        }
+    }
+    false
 }
 
 // The image of a case is read, and its answers compared.

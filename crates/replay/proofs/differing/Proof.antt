@@ -16,31 +16,31 @@ Inv-loop cases differ₀ done₀ differ done = (done ≤ cases) × (differ ≤ d
 abbrev μ-loop : tie.MeasureT-loop
 μ-loop cases differ₀ done₀ differ done = cases - done
 
--- src/main.rt:157:5
+-- src/main.rt:245:5
 loop-holds : tie.Need-loop-holds Inv-loop μ-loop
 loop-holds c = search needs
 
--- src/main.rt:158:27
+-- src/main.rt:246:27
 replayed-requires : tie.Need-replayed-requires Inv-loop μ-loop
 replayed-requires c κs = search needs
 
--- src/main.rt:158:18
+-- src/main.rt:246:18
 add-differ : tie.Need-add-differ Inv-loop μ-loop
 add-differ c = search needs
 
--- src/main.rt:159:9
+-- src/main.rt:247:9
 add-done : tie.Need-add-done Inv-loop μ-loop
 add-done c = search needs
 
--- src/main.rt:157:5
+-- src/main.rt:245:5
 loop-less : tie.Need-loop-less Inv-loop μ-loop
 loop-less c = search needs
 
--- src/main.rt:157:5
+-- src/main.rt:245:5
 loop-again : tie.Need-loop-again Inv-loop μ-loop
 loop-again c = search needs
 
--- src/main.rt:152:1
+-- src/main.rt:240:1
 returns : tie.Need-returns Inv-loop μ-loop
 returns c = search needs
 

@@ -16,35 +16,35 @@ Inv-loop s h₀ i₀ h i = i ≤ length s
 abbrev μ-loop : tie.MeasureT-loop
 μ-loop s h₀ i₀ h i = length s - i
 
--- src/main.rt:66:5
+-- src/main.rt:81:5
 loop-holds : tie.Need-loop-holds Inv-loop μ-loop
 loop-holds c = search needs
 
--- src/main.rt:67:28
+-- src/main.rt:82:28
 mul-hashed-word : tie.Need-mul-hashed-word Inv-loop μ-loop
 mul-hashed-word c = search needs
 
--- src/main.rt:67:28
+-- src/main.rt:82:28
 shared-slice-read-hashed-word : tie.Need-shared-slice-read-hashed-word Inv-loop μ-loop
 shared-slice-read-hashed-word c = search needs
 
--- src/main.rt:67:9
+-- src/main.rt:82:9
 hashed-word-requires : tie.Need-hashed-word-requires Inv-loop μ-loop
 hashed-word-requires c κs = search needs
 
--- src/main.rt:68:9
+-- src/main.rt:83:9
 add-i : tie.Need-add-i Inv-loop μ-loop
 add-i c = search needs
 
--- src/main.rt:66:5
+-- src/main.rt:81:5
 loop-less : tie.Need-loop-less Inv-loop μ-loop
 loop-less c = search needs
 
--- src/main.rt:66:5
+-- src/main.rt:81:5
 loop-again : tie.Need-loop-again Inv-loop μ-loop
 loop-again c = search needs
 
--- src/main.rt:63:1
+-- src/main.rt:78:1
 returns : tie.Need-returns Inv-loop μ-loop
 returns c = search needs
 

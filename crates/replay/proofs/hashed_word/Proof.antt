@@ -16,27 +16,27 @@ Inv-loop h w x₀ rest₀ i₀ x rest i = i ≤ 8
 abbrev μ-loop : tie.MeasureT-loop
 μ-loop h w x₀ rest₀ i₀ x rest i = 8 - i
 
--- src/main.rt:55:5
+-- src/main.rt:70:5
 loop-holds : tie.Need-loop-holds Inv-loop μ-loop
 loop-holds c = search needs
 
--- src/main.rt:56:9
+-- src/main.rt:71:9
 times-requires : tie.Need-times-requires Inv-loop μ-loop
 times-requires c κs = search needs
 
--- src/main.rt:58:9
+-- src/main.rt:73:9
 add-i : tie.Need-add-i Inv-loop μ-loop
 add-i c = search needs
 
--- src/main.rt:55:5
+-- src/main.rt:70:5
 loop-less : tie.Need-loop-less Inv-loop μ-loop
 loop-less c = search needs
 
--- src/main.rt:55:5
+-- src/main.rt:70:5
 loop-again : tie.Need-loop-again Inv-loop μ-loop
 loop-again c = search needs
 
--- src/main.rt:51:1
+-- src/main.rt:66:1
 returns : tie.Need-returns Inv-loop μ-loop
 returns c = search needs
 
