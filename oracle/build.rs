@@ -45,16 +45,20 @@ fn error_type(text: &str) -> String {
     }
 }
 
-// The static library to compare, if a feature asks for one.
+// The static libraries to compare, if a feature asks for one.
 fn link() {
-    let asked = ["CHECK", "ANALYSE", "BUILD", "HOST"].iter().any(|f| env::var_os(format!("CARGO_FEATURE_{f}")).is_some());
+    let asked = ["CHECK", "BUILD", "HOST"].iter().any(|f| env::var_os(format!("CARGO_FEATURE_{f}")).is_some());
     if !asked {
         return;
     }
-    let given = env::var("HASP_LIB").unwrap_or_else(|_| fail("a feature asks for the static library: set HASP_LIB to its file"));
-    let lib = fs::canonicalize(&given).unwrap_or_else(|e| fail(&format!("HASP_LIB: {given}, seen from oracle/: {e}")));
-    println!("cargo::rerun-if-changed={}", lib.display());
-    println!("cargo::rustc-link-arg-bins={}", lib.display());
+    let Some(named) = env::var_os("HASP_LIB") else {
+        fail("a feature asks for a static library: set HASP_LIB to its file, or to several with a colon between")
+    };
+    for lib in env::split_paths(&named) {
+        let lib = fs::canonicalize(&lib).unwrap_or_else(|e| fail(&format!("HASP_LIB: {}, seen from oracle/: {e}", lib.display())));
+        println!("cargo::rerun-if-changed={}", lib.display());
+        println!("cargo::rustc-link-arg-bins={}", lib.display());
+    }
 }
 
 fn fail(line: &str) -> ! {

@@ -1,6 +1,6 @@
 // Times of the unchanged Rust and of the linked library, in one process: least of several rounds.
 use crate::codegen::Codegen;
-use crate::foreign::{self, ANALYSE, BUILD, CHECK, HOST};
+use crate::foreign::{self, BUILD, CHECK, HOST};
 use crate::groups::{self, Group};
 use crate::model::program;
 use crate::sema::SemanticAnalyzer;
@@ -100,7 +100,7 @@ fn library(images: &[Vec<u8>], words: &[usize], clock: &Clock) -> [Option<f64>; 
     let least = |linked: bool, work: &mut dyn FnMut(&[u8])| linked.then(|| clock.least(|| images.iter().for_each(|i| work(black_box(i)))));
     [
         least(CHECK, &mut |i| _ = black_box(foreign::lib_check(i))),
-        least(ANALYSE, &mut |i| _ = black_box(foreign::lib_analyse(i))),
+        least(HOST, &mut |i| _ = black_box(foreign::lib_analyse(i))),
         least(BUILD, &mut |i| _ = black_box(foreign::lib_build(i, &mut code, &mut table))),
         least(HOST, &mut |i| _ = black_box(foreign::lib_host(i, &mut bytes))),
     ]

@@ -62,7 +62,7 @@ pub fn trees() -> Vec<(&'static str, Contract)> {
     pairs(&mut out, ["512 Lets", "513 Lets"], 511, |n| names(1, 0, n));
     pairs(&mut out, ["512 Fors and Lets", "513 Fors and Lets"], 412, |n| names(1, 99, n));
     pairs(&mut out, ["512 parameters", "513 parameters"], 512, |n| names(n, 0, 0));
-    out.push(("last name over is a For", names(1, 256, 256)));
+    out.push(("a name over, Fors and Lets", names(1, 256, 256)));
     pairs(&mut out, ["a name of 64", "a name of 65"], 64, |n| Contract { name: "x".repeat(n), ..main_of(vec![]) });
     out
 }

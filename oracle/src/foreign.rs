@@ -10,8 +10,6 @@ const GUARD: usize = 16;
 extern "C" {
     #[cfg(feature = "check")]
     fn hasp_check(img: *const u8, len: usize) -> u64;
-    #[cfg(feature = "analyse")]
-    fn hasp_analyse(img: *const u8, len: usize) -> u64;
     #[cfg(feature = "build")]
     fn hasp_build(img: *const u8, len: usize, code: *mut u64, room: usize, table: *mut u64, numbers: usize) -> u64;
     #[cfg(feature = "host")]
@@ -21,10 +19,9 @@ extern "C" {
 }
 
 pub const CHECK: bool = cfg!(feature = "check");
-pub const ANALYSE: bool = cfg!(feature = "analyse");
 pub const BUILD: bool = cfg!(feature = "build");
 pub const HOST: bool = cfg!(feature = "host");
-const ANY: bool = CHECK || ANALYSE || BUILD || HOST;
+const ANY: bool = CHECK || BUILD || HOST;
 
 /// The library's check; 0 where it is not linked.
 pub fn lib_check(_img: &[u8]) -> u64 {
@@ -35,9 +32,9 @@ pub fn lib_check(_img: &[u8]) -> u64 {
 }
 
 pub fn lib_analyse(_img: &[u8]) -> u64 {
-    #[cfg(feature = "analyse")]
-    return unsafe { hasp_analyse(_img.as_ptr(), _img.len()) };
-    #[cfg(not(feature = "analyse"))]
+    #[cfg(feature = "host")]
+    return unsafe { host_analyse(_img.as_ptr(), _img.len()) };
+    #[cfg(not(feature = "host"))]
     0
 }
 
@@ -55,17 +52,10 @@ pub fn lib_host(_img: &[u8], _out: &mut [u8]) -> u64 {
     0
 }
 
-pub fn lib_host_analyse(_img: &[u8]) -> u64 {
-    #[cfg(feature = "host")]
-    return unsafe { host_analyse(_img.as_ptr(), _img.len()) };
-    #[cfg(not(feature = "host"))]
-    0
-}
-
 /// Compares what is linked over n seeds and every edge, on a thread with a stack of HASP_STACK bytes (2 MiB).
 pub fn compare(n: u64, seed: u64) -> Result<(), String> {
     if !ANY {
-        return Err("no entry is linked: build with --features check,analyse,build,host and HASP_LIB".into());
+        return Err("no entry is linked: build with --features check,build,host and HASP_LIB".into());
     }
     let stack = std::env::var("HASP_STACK").ok().and_then(|s| s.parse().ok()).unwrap_or(2 << 20);
     let thread = std::thread::Builder::new().stack_size(stack).spawn(move || all(n, seed)).map_err(|e| e.to_string())?;
@@ -79,7 +69,7 @@ fn all(n: u64, seed: u64) -> Result<(), String> {
     for s in seed..seed + n {
         one(&cases::image(s)).map_err(|e| format!("seed {s}: {e}"))?;
     }
-    let linked = [("check", CHECK), ("analyse", ANALYSE), ("build", BUILD), ("host", HOST)];
+    let linked = [("check", CHECK), ("build", BUILD), ("host_analyse, host_build", HOST)];
     let names: Vec<&str> = linked.iter().filter(|l| l.1).map(|l| l.0).collect();
     println!("{n} seeds and every edge: {} equal", names.join(", "));
     Ok(())
@@ -90,12 +80,9 @@ fn one(img: &[u8]) -> Result<(), String> {
         let ours = check::check(img).map_or_else(|f| Answer::of(&f.into()).packed(), |_| 0);
         same(img, "check", ours, lib_check(img))?;
     }
-    let ours = analysed(img).map_or_else(|r| Answer::of(&r).packed(), |_| 0);
-    if ANALYSE {
-        same(img, "analyse", ours, lib_analyse(img))?;
-    }
     if HOST {
-        same(img, "host_analyse", ours, lib_host_analyse(img))?;
+        let ours = analysed(img).map_or_else(|r| Answer::of(&r).packed(), |_| 0);
+        same(img, "analyse", ours, lib_analyse(img))?;
     }
     if !BUILD && !HOST {
         return Ok(());

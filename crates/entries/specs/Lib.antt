@@ -1,3 +1,6 @@
 pub mod Entries
 pub mod Rows
 pub mod Endings
+pub mod Unique
+pub mod Whole
+pub mod Walks

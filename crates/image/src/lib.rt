@@ -229,7 +229,7 @@ fn check_record(
     }
 }
 
-// The first fault of an image, or where it ends.
+// The first fault of an image, or where it ends: the numbers of document 01's rows 1 to 7 are given by `rules` Check (`refusalOf`, `childrenOf`, `wholeOf`, `checkOf`).
 pub fn check(image: &[u8]) -> Seen
     ensures { λ r. ⌜ r ≡ checkOf (now (image .entry)) ⌝ }
 {

@@ -2,3 +2,4 @@ pub mod Arguments
 pub mod Steps
 pub mod Entry
 pub mod Front
+pub mod Unique
