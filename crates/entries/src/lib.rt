@@ -23,20 +23,28 @@ pub fn room(table: &[Entry]) -> usize
     table.len()
 }
 
-// Entry i.
+// Entry i; past the end the blank one.
 pub fn get(table: &[Entry], i: usize) -> Entry
-    requires { ⌜ i < length (now table) ⌝ }
     ensures { λ r. ⌜ r ≡ getD (now (table .entry)) i blank ⌝ }
 {
-    table[i]
+    if table.len() <= i {
+        Entry {
+            place: 0,
+            first: 0,
+            params: 0,
+        }
+    } else {
+        table[i]
+    }
 }
 
-// Entry i is e; the others stay.
+// Entry i is e; the others stay. Past the end nothing is put.
 pub fn put(table: &mut [Entry], i: usize, e: Entry)
-    requires { ⌜ i < length (now table) ⌝ }
     ensures { λ _. ⌜ now (table .exit) ≡ set (now (table .entry)) i e ⌝ }
 {
-    table[i] = e;
+    if i < table.len() {
+        table[i] = e;
+    }
 }
 
 // Every entry is blank (01: on a refusal all zero).
