@@ -15,6 +15,8 @@ use std::collections::{BTreeMap, BTreeSet};
 const MAGIC: &[u8; 8] = b"HASPANS1";
 const HEADER: usize = 32;
 const CASE: usize = 48;
+/// Where a case has a number of an answer: refusal, place, count, both checksums, analyse's refusal and place.
+const ANSWERS: [usize; 7] = [12, 16, 20, 24, 32, 40, 44];
 const CODE_POISON: u64 = 0xA5A5_A5A5_A5A5_A5A5;
 const TABLE_POISON: u64 = 0x5A5A_5A5A_5A5A_5A5A;
 /// The first seed that is looked at.
@@ -82,8 +84,9 @@ pub fn store(dir: &str) -> Result<(), String> {
     few.for_each(|e| all.case(&e.1, 4, 6));
     all.seeds();
     all.complete()?;
-    crate::save(&format!("{dir}/answers.bin"), &[all.header(), all.bytes.clone()].concat())?;
-    println!("{} cases, {} bytes", all.count, all.bytes.len() + HEADER);
+    let file = all.file(&wrong());
+    crate::save(&format!("{dir}/answers.bin"), &file)?;
+    println!("{} cases and {} wrong ones, {} bytes", all.count, ANSWERS.len(), file.len());
     all.given.iter().for_each(|(n, k)| println!("{n:3} {k}"));
     Ok(())
 }
@@ -106,16 +109,31 @@ pub fn replay(file: &str) -> Result<(), String> {
         }
         at += CASE + len;
     }
+    if all[at..] != wrong() {
+        return Err(format!("{file} has other wrong cases at {at}"));
+    }
     println!("{count} cases equal");
     Ok(())
 }
 
+// C1 with each number of its answers one too high in turn, so that a comparison which is lost is noticed.
+fn wrong() -> Vec<u8> {
+    let c1 = &samples::all()[0].image;
+    let spoilt = |at: usize| {
+        let mut one = Stored::default();
+        one.add(c1, 16, 6, &program(c1));
+        one.bytes[at] += 1;
+        one.bytes
+    };
+    ANSWERS.into_iter().flat_map(spoilt).collect()
+}
+
 impl Stored {
-    fn header(&self) -> Vec<u8> {
-        let mut out = MAGIC.to_vec();
-        let numbers = [self.count as usize, self.bytes.len() + HEADER, self.most[0], self.most[1], self.most[2], 0];
-        numbers.iter().for_each(|n| out.extend((*n as u32).to_le_bytes()));
-        out
+    fn file(&self, wrong: &[u8]) -> Vec<u8> {
+        let length = HEADER + self.bytes.len() + wrong.len();
+        let numbers = [self.count as usize, length, self.most[0], self.most[1], self.most[2], ANSWERS.len()];
+        let header = numbers.iter().flat_map(|n| (*n as u32).to_le_bytes()).collect();
+        [MAGIC.to_vec(), header, self.bytes.clone(), wrong.to_vec()].concat()
     }
 
     fn case(&mut self, img: &[u8], room: usize, table: usize) {

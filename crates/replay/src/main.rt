@@ -208,52 +208,64 @@ fn entered_roomed(case: Case, image: &[u8]) -> bool {
     entered(case, image, &mut code[..words], numbers)
 }
 
-fn agrees(case: Case, image: &[u8]) -> bool {
+fn differs(same: bool) -> u64
+    ensures { λ r. ⌜ r ≤ 1 ⌝ }
+{
+    if same { 0 } else { 1 }
+}
+
+// How many of the three answers differ: build's, build_entries' and analyse's.
+fn differing(case: Case, image: &[u8]) -> u64
+    ensures { λ r. ⌜ r ≤ 3 ⌝ }
+{
     let mut code = [WORD; 8192];
     let mut table = [NUMBER; 768];
-    if roomed(case, image, &mut code, &mut table) {
-        if entered_roomed(case, image) {
-            return analysed(case, image);
-        }
-    }
-    false
+    let numbers = differs(roomed(case, image, &mut code, &mut table));
+    let structs = differs(entered_roomed(case, image));
+    numbers + structs + differs(analysed(case, image))
 }
 
 // The image of a case is read, and its answers compared.
-fn read(case: Case, image: &mut [u8]) -> bool {
+fn read(case: Case, image: &mut [u8]) -> u64
+    ensures { λ r. ⌜ r ≤ 3 ⌝ }
+{
     if io::read_full(STDIN_FILENO, image) != image.len() {
-        return false;
+        return 3;
     }
-    agrees(case, image)
+    differing(case, image)
 }
 
 // The case whose stored numbers are `head`, with room for its image.
-fn judged(head: &[u8], room: &mut [u8]) -> bool {
+fn judged(head: &[u8], room: &mut [u8]) -> u64
+    ensures { λ r. ⌜ r ≤ 3 ⌝ }
+{
     let case = case_in(head);
     let n = least(case.size, room.len());
     read(case, &mut room[..n])
 }
 
-// The next case: 1 where it differs.
+// The answers that differ in the next case.
 fn replayed() -> u64
-    ensures { λ r. ⌜ r ≤ 1 ⌝ }
+    ensures { λ r. ⌜ r ≤ 3 ⌝ }
 {
     let mut head = [0u8; 48];
     let mut image = [0u8; 65537];
     if io::read_full(STDIN_FILENO, &mut head) != 48 {
-        return 1;
+        return 3;
     }
-    if judged(&head, &mut image) { 0 } else { 1 }
+    judged(&head, &mut image)
 }
 
-fn cases_in(head: &mut [u8]) -> u64
+// A number of the header.
+fn counted(head: &[u8], at: usize) -> u64
+    requires { ⌜ at ≤ 64 ⌝ }
     ensures { λ r. ⌜ r < 4294967296 ⌝ }
 {
-    io::read_full(STDIN_FILENO, head);
-    records::word32(head, 8)
+    records::word32(head, at)
 }
 
-fn differing(cases: u64) -> u64
+// So many cases, and the answers that differ in them.
+fn replay(cases: u64)
     requires { ⌜ cases < 4294967296 ⌝ }
 {
     let mut differ = 0;
@@ -262,15 +274,16 @@ fn differing(cases: u64) -> u64
         differ = differ + replayed();
         done += 1;
     }
-    differ
+    io::print_decimal(STDOUT_FILENO, cases);
+    io::write_all(STDOUT_FILENO, b" cases, ");
+    io::print_decimal(STDOUT_FILENO, differ);
+    io::write_all(STDOUT_FILENO, b" answers differ\n");
 }
 
+// The stored cases; then those that have a wrong number on purpose, so that a comparison which is lost is noticed.
 fn main() {
     let mut head = [0u8; 32];
-    let cases = cases_in(&mut head);
-    let differ = differing(cases);
-    io::print_decimal(STDOUT_FILENO, cases);
-    io::write_all(STDOUT_FILENO, b" stored answers, ");
-    io::print_decimal(STDOUT_FILENO, differ);
-    io::write_all(STDOUT_FILENO, b" differ\n");
+    io::read_full(STDIN_FILENO, &mut head);
+    replay(counted(&head, 8));
+    replay(counted(&head, 28));
 }
