@@ -1,11 +1,11 @@
 -- Demand 3 of the entry structs that `build_entries` leaves behind.
 --     spans n es     the functions that the entries tell of, in a program of n words: each ends where the next one starts, the last with the program
 -- Assumes nothing.
-use mathlib.Core.Path.{_≡_, refl, ap, subst}
+use mathlib.Core.Path.{_≡_, refl, subst}
 use mathlib.Core.List.{List, [], _∷_}
 use Prim.Native.Nat.{ℕ, zero, suc, _≤_}
 use native.Mathlib.Omega.{arith}
-use lib.ListN.{length, take, drop}
+use lib.ListN.{length, take}
 use Rattle.rules.specs.declared.Answer.{Answer}
 use Rattle.rules.specs.Read.{contractAt}
 use Rattle.rules.specs.Lent.{spread}

@@ -2,14 +2,14 @@
 --     refused-zero     a refusal other than 0: every word is zero and every entry blank
 --     rest-lent        0: both are as lent past the words and past the entries of the contract's functions
 -- Assumes nothing.
-use mathlib.Core.Path.{_≡_, refl, sym, ap, _∙_}
+use mathlib.Core.Path.{_≡_, refl, sym, _∙_}
 use mathlib.Core.List.{List, [], _∷_}
 use Prim.Native.Nat.{ℕ, zero, suc, _*_}
 use native.Mathlib.Omega.{arith}
 use lib.ListN.{length, drop, replicate}
 use Rattle.rules.specs.declared.Answer.{Answer}
 use Rattle.rules.specs.Read.{contractAt}
-use Rattle.rules.specs.Lent.{cleared, spread}
+use Rattle.rules.specs.Lent.{spread}
 use Rattle.rules.specs.Emit.{Rules}
 use Rattle.lent.specs.Rest.{Rest, all-zero}
 use Rattle.compiler.specs.Ends.{Built}

@@ -3,16 +3,16 @@
 --     refused-zero     a refusal other than 0: every byte is zero
 --     rest-lent        0: the bytes are as lent past the words
 -- Assumes nothing.
-use mathlib.Core.Path.{_≡_, refl, sym, ap, subst, _∙_}
+use mathlib.Core.Path.{_≡_, refl, sym, subst, _∙_}
 use mathlib.Core.Bool.{Bool, true, false}
 use mathlib.Core.List.{List}
-use Prim.Native.Nat.{ℕ, _+_, _*_, _/_, _%_, _^_}
+use Prim.Native.Nat.{ℕ, _*_, _/_, _%_, _^_}
 use native.Mathlib.Omega.{arith}
 use borrow.Author.Tests.{ltb-false}
 use lib.Dec.{ltb}
 use lib.ListN.{length, length-map, replicate}
 use Rattle.rules.specs.declared.Answer.{Answer}
-use Rattle.rules.specs.Refusal.{Refusal, Res, ok, bad, _>>=_, unless, refused, numberOf}
+use Rattle.rules.specs.Refusal.{Res, ok, bad, _>>=_, unless, refused, numberOf}
 use Rattle.rules.specs.Machine as machine
 use Rattle.rules.specs.Link.{Program}
 use Rattle.rules.specs.Lent.{over}

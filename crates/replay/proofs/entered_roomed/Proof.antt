@@ -7,35 +7,25 @@ use lib.Seq.{length-take-le}
 use borrow.Author.Needs.{needs}
 use Rattle.replay.proofs.entered_roomed.Statement.{statement}
 use Rattle.replay.proofs.entered_roomed.Tie as tie
-use Rattle.replay.proofs.entered_roomed.Reads as reads
-use Rattle.replay.proofs.entered_roomed.Lts as lts
-use Rattle.replay.proofs.entered.Reads as entered-reads
-use Rattle.replay.proofs.least.Reads as least-reads
 
 as-long : (k w : ℕ) → k ≤ 8192 → k ≡ length (take k (replicate 8192 w))
 as-long k w h = sym (length-take-le k (replicate 8192 w) (rw (length-replicate 8192 w) h))
 
--- src/main.rt:206:9
 least-requires : tie.Need-least-requires
 least-requires c κs = search needs
 
--- src/main.rt:207:9
 least-requires-2 : tie.Need-least-requires-2
 least-requires-2 c κs = search needs
 
--- src/main.rt:208:26
 array-borrow-prefix-code : tie.Need-array-borrow-prefix-code
 array-borrow-prefix-code c = search needs
 
--- src/main.rt:208:26
 slice-aggregate-entered : tie.Need-slice-aggregate-entered
 slice-aggregate-entered c = as-long (c .before .before .least .result) _ (c .before .before .least .ensures)
 
--- src/main.rt:208:5
 entered-requires : tie.Need-entered-requires
 entered-requires c κs = search needs
 
--- src/main.rt:204:1
 returns : tie.Need-returns
 returns c = search needs
 

@@ -1,14 +1,10 @@
 -- `replay::hashed` ends, and stays in bounds.
 -- Assumes nothing.
-use Prim.Native.Nat.{_-_, _≤_, _<_}
-use native.Mathlib.Omega.{arith}
+use Prim.Native.Nat.{_-_, _≤_}
 use lib.ListN.{length}
 use borrow.Author.Needs.{needs}
 use Rattle.replay.proofs.hashed.Statement.{statement}
 use Rattle.replay.proofs.hashed.Tie as tie
-use Rattle.replay.proofs.hashed.Reads as reads
-use Rattle.replay.proofs.hashed.Lts as lts
-use Rattle.replay.proofs.hashed_word.Reads as hashed-word-reads
 
 abbrev Inv-loop : tie.InvT-loop
 Inv-loop s h₀ i₀ h i = i ≤ length s
@@ -16,35 +12,27 @@ Inv-loop s h₀ i₀ h i = i ≤ length s
 abbrev μ-loop : tie.MeasureT-loop
 μ-loop s h₀ i₀ h i = length s - i
 
--- src/main.rt:81:5
 loop-holds : tie.Need-loop-holds Inv-loop μ-loop
 loop-holds c = search needs
 
--- src/main.rt:82:28
 mul-hashed-word : tie.Need-mul-hashed-word Inv-loop μ-loop
 mul-hashed-word c = search needs
 
--- src/main.rt:82:28
 shared-slice-read-hashed-word : tie.Need-shared-slice-read-hashed-word Inv-loop μ-loop
 shared-slice-read-hashed-word c = search needs
 
--- src/main.rt:82:9
 hashed-word-requires : tie.Need-hashed-word-requires Inv-loop μ-loop
 hashed-word-requires c κs = search needs
 
--- src/main.rt:83:9
 add-i : tie.Need-add-i Inv-loop μ-loop
 add-i c = search needs
 
--- src/main.rt:81:5
 loop-less : tie.Need-loop-less Inv-loop μ-loop
 loop-less c = search needs
 
--- src/main.rt:81:5
 loop-again : tie.Need-loop-again Inv-loop μ-loop
 loop-again c = search needs
 
--- src/main.rt:78:1
 returns : tie.Need-returns Inv-loop μ-loop
 returns c = search needs
 

@@ -4,9 +4,6 @@ use Prim.Native.Nat.{_-_, _≤_}
 use borrow.Author.Needs.{needs}
 use Rattle.replay.proofs.hashed_entries.Statement.{statement}
 use Rattle.replay.proofs.hashed_entries.Tie as tie
-use Rattle.replay.proofs.hashed_entries.Reads as reads
-use Rattle.replay.proofs.hashed_entries.Lts as lts
-use Rattle.replay.proofs.hashed_word.Reads as hashed-word-reads
 
 abbrev Inv-loop : tie.InvT-loop
 Inv-loop n entries h₀ i₀ h i = i ≤ n
@@ -14,43 +11,33 @@ Inv-loop n entries h₀ i₀ h i = i ≤ n
 abbrev μ-loop : tie.MeasureT-loop
 μ-loop n entries h₀ i₀ h i = n - i
 
--- src/main.rt:95:5
 loop-holds : tie.Need-loop-holds Inv-loop μ-loop
 loop-holds c = search needs
 
--- src/main.rt:96:17
 mul-e : tie.Need-mul-e Inv-loop μ-loop
 mul-e c = search needs
 
--- src/main.rt:96:17
 array-copy-out-e : tie.Need-array-copy-out-e Inv-loop μ-loop
 array-copy-out-e c = search needs
 
--- src/main.rt:97:9
 hashed-word-requires : tie.Need-hashed-word-requires Inv-loop μ-loop
 hashed-word-requires c κs = search needs
 
--- src/main.rt:98:9
 hashed-word-requires-2 : tie.Need-hashed-word-requires-2 Inv-loop μ-loop
 hashed-word-requires-2 c κs = search needs
 
--- src/main.rt:99:9
 hashed-word-requires-3 : tie.Need-hashed-word-requires-3 Inv-loop μ-loop
 hashed-word-requires-3 c κs = search needs
 
--- src/main.rt:100:9
 add-i : tie.Need-add-i Inv-loop μ-loop
 add-i c = search needs
 
--- src/main.rt:95:5
 loop-less : tie.Need-loop-less Inv-loop μ-loop
 loop-less c = search needs
 
--- src/main.rt:95:5
 loop-again : tie.Need-loop-again Inv-loop μ-loop
 loop-again c = search needs
 
--- src/main.rt:90:1
 returns : tie.Need-returns Inv-loop μ-loop
 returns c = search needs
 

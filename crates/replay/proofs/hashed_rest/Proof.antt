@@ -4,9 +4,6 @@ use Prim.Native.Nat.{_-_, _≤_}
 use borrow.Author.Needs.{needs}
 use Rattle.replay.proofs.hashed_rest.Statement.{statement}
 use Rattle.replay.proofs.hashed_rest.Tie as tie
-use Rattle.replay.proofs.hashed_rest.Reads as reads
-use Rattle.replay.proofs.hashed_rest.Lts as lts
-use Rattle.replay.proofs.hashed_word.Reads as hashed-word-reads
 
 abbrev Inv-loop : tie.InvT-loop
 Inv-loop h rest refusal w x₀ i₀ x i = i ≤ rest
@@ -14,27 +11,21 @@ Inv-loop h rest refusal w x₀ i₀ x i = i ≤ rest
 abbrev μ-loop : tie.MeasureT-loop
 μ-loop h rest refusal w x₀ i₀ x i = rest - i
 
--- src/main.rt:110:5
 loop-holds : tie.Need-loop-holds Inv-loop μ-loop
 loop-holds c = search needs
 
--- src/main.rt:111:9
 hashed-word-requires : tie.Need-hashed-word-requires Inv-loop μ-loop
 hashed-word-requires c κs = search needs
 
--- src/main.rt:112:9
 add-i : tie.Need-add-i Inv-loop μ-loop
 add-i c = search needs
 
--- src/main.rt:110:5
 loop-less : tie.Need-loop-less Inv-loop μ-loop
 loop-less c = search needs
 
--- src/main.rt:110:5
 loop-again : tie.Need-loop-again Inv-loop μ-loop
 loop-again c = search needs
 
--- src/main.rt:106:1
 returns : tie.Need-returns Inv-loop μ-loop
 returns c = search needs
 

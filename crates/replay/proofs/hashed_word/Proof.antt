@@ -1,14 +1,9 @@
 -- `replay::hashed_word` ends, and stays in bounds.
 -- Assumes nothing.
-use Prim.Native.Nat.{_-_, _≤_, _<_}
-use native.Mathlib.Omega.{arith}
-use lib.ListN.{length}
+use Prim.Native.Nat.{_-_, _≤_}
 use borrow.Author.Needs.{needs}
 use Rattle.replay.proofs.hashed_word.Statement.{statement}
 use Rattle.replay.proofs.hashed_word.Tie as tie
-use Rattle.replay.proofs.hashed_word.Reads as reads
-use Rattle.replay.proofs.hashed_word.Lts as lts
-use Rattle.replay.proofs.times.Reads as times-reads
 
 abbrev Inv-loop : tie.InvT-loop
 Inv-loop h w x₀ rest₀ i₀ x rest i = i ≤ 8
@@ -16,27 +11,21 @@ Inv-loop h w x₀ rest₀ i₀ x rest i = i ≤ 8
 abbrev μ-loop : tie.MeasureT-loop
 μ-loop h w x₀ rest₀ i₀ x rest i = 8 - i
 
--- src/main.rt:70:5
 loop-holds : tie.Need-loop-holds Inv-loop μ-loop
 loop-holds c = search needs
 
--- src/main.rt:71:9
 times-requires : tie.Need-times-requires Inv-loop μ-loop
 times-requires c κs = search needs
 
--- src/main.rt:73:9
 add-i : tie.Need-add-i Inv-loop μ-loop
 add-i c = search needs
 
--- src/main.rt:70:5
 loop-less : tie.Need-loop-less Inv-loop μ-loop
 loop-less c = search needs
 
--- src/main.rt:70:5
 loop-again : tie.Need-loop-again Inv-loop μ-loop
 loop-again c = search needs
 
--- src/main.rt:66:1
 returns : tie.Need-returns Inv-loop μ-loop
 returns c = search needs
 

@@ -5,48 +5,34 @@ use lib.Seq.{length-take-le}
 use borrow.Author.Needs.{needs}
 use Rattle.replay.proofs.roomed.Statement.{statement}
 use Rattle.replay.proofs.roomed.Tie as tie
-use Rattle.replay.proofs.roomed.Reads as reads
-use Rattle.replay.proofs.roomed.Lts as lts
-use Rattle.replay.proofs.built.Reads as built-reads
-use Rattle.replay.proofs.least.Reads as least-reads
 
--- src/main.rt:162:9
 least-requires : tie.Need-least-requires
 least-requires c κs = search needs
 
--- src/main.rt:163:9
 least-requires-2 : tie.Need-least-requires-2
 least-requires-2 c κs = search needs
 
--- src/main.rt:164:24
 slice-relend-prefix-built : tie.Need-slice-relend-prefix-built
 slice-relend-prefix-built c = search needs
 
--- src/main.rt:164:24
 slice-aggregate-built : tie.Need-slice-aggregate-built
 slice-aggregate-built c = sym (length-take-le (c .before .before .least .result) (c .before .before .before .before .before .before .args .code .now) (c .before .before .least .ensures))
 
--- src/main.rt:164:44
 slice-relend-prefix-built-2 : tie.Need-slice-relend-prefix-built-2
 slice-relend-prefix-built-2 c = search needs
 
--- src/main.rt:164:44
 slice-aggregate-built-2 : tie.Need-slice-aggregate-built-2
 slice-aggregate-built-2 c = sym (length-take-le (c .before .before .least2 .result) (c .before .before .before .before .before .before .before .args .table .now) (c .before .before .least2 .ensures))
 
--- src/main.rt:164:5
 built-requires : tie.Need-built-requires
 built-requires c κs = search needs
 
--- src/main.rt:161:1
 same-length : tie.Need-same-length
 same-length c = search needs
 
--- src/main.rt:161:1
 same-length-2 : tie.Need-same-length-2
 same-length-2 c = search needs
 
--- src/main.rt:161:1
 returns : tie.Need-returns
 returns c = search needs
 
