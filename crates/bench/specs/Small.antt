@@ -20,11 +20,10 @@ use Rattle.rules.specs.Link.{Program}
 use Rattle.rules.specs.Build.{passed, program, fits, listed, outcome, programAnswer, packed, buildOf}
 use Rattle.bounds.specs.Cuts.{cut}
 use Rattle.bounds.specs.Programs.{program-bounded}
-use Rattle.heights.specs.Placed.{mirrors-length}
-use Rattle.heights.specs.Theorem.{obeyed}
+use Rattle.heights.specs.Theorem.{as-many}
 use Rattle.host.specs.Near.{Near, near-bad}
 use Rattle.host.specs.Nearby.{check-near, program-near}
-use Rattle.host.specs.Ends.{Small, refusal-plain}
+use Rattle.host.specs.Ends.{Small, small-refused, refusal-plain}
 
 -- The check's answer as three numbers (01: What comes back).
 unfoldable pub checked : Seen → Answer
@@ -60,6 +59,6 @@ small-build R few img code table = by (program R img) refl (program-near R img)
 
     by : (m : Res Program) → program R img ≡ m → Near 65536 (λ (P : Program). Unit {0}) m → Small (programAnswer (m >>= λ P. fits (length code) P >>= λ Q. listed (length table) Q))
     by (ok P) e h =
-        let l : length (P .table) ≡ length (contractAt img .functions) = mirrors-length (contractAt img .functions) (P .table) (obeyed R img P e .mirrors) in
+        let l : length (P .table) ≡ length (contractAt img .functions) = as-many R img P e in
         words P (ltb (length code) (length (P .words))) (program-bounded R few img P e .short) (omega (arith, l, cut img .functions))
-    by (bad q) e (near-bad _ h) = let z = refusal-plain R img q e in record { refusal = omega (arith, h .0); place = omega (arith, h .1); count = omega (arith, z .1) }
+    by (bad q) e (near-bad _ h) = small-refused q h (refusal-plain R img q e)

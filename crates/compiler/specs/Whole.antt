@@ -17,8 +17,7 @@ use Rattle.rules.specs.Lent.{over, spread}
 use Rattle.rules.specs.Build.{outcome, programAnswer, wordsOf, threeOf, at-exit, buildOf, codeOf, tableOf}
 use Rattle.lent.specs.Over.{length-spread}
 use Rattle.lent.specs.Rest.{Rest, rest-over, all-zero}
-use Rattle.heights.specs.Placed.{mirrors-length}
-use Rattle.heights.specs.Theorem.{obeyed}
+use Rattle.heights.specs.Theorem.{as-many}
 use Rattle.heights.specs.Accepted.{Fitting, accepted}
 use Rattle.compiler.specs.Ends.{Built}
 
@@ -44,7 +43,7 @@ module _ (R : Rules) (img code table : List ℕ) (a : Answer) (c t : List ℕ) (
       by (P, e, f) =
           let w : length (wordsOf P) ≡ length (P .words) = length-map (P .words) numberOf in
           let n : length (wordsOf P) ≡ a .count = w ∙ sym (ap (λ (x : Answer). x .count) (b .answer) ∙ rw e refl) in
-          let l : length (P .table) ≡ length (contractAt img .functions) = mirrors-length (contractAt img .functions) (P .table) (obeyed R img P (f .is) .mirrors) in
+          let l : length (P .table) ≡ length (contractAt img .functions) = as-many R img P (f .is) in
           let k : length (spread threeOf (P .table)) ≡ 3 * length (contractAt img .functions) = length-spread threeOf 3 three (P .table) ∙ ap (λ (m : ℕ). 3 * m) l in
           let c-is : over (wordsOf P) code ≡ c = sym (b .words ∙ rw e refl) in
           let t-is : over (spread threeOf (P .table)) table ≡ t = sym (b .entries ∙ rw e refl) in (

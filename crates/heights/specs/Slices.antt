@@ -13,8 +13,7 @@ use Rattle.rules.specs.Emit.{Rules}
 use Rattle.rules.specs.Link.{Program}
 use Rattle.rules.specs.Build.{program, outcome, programAnswer, wordsOf, threeOf, at-exit, buildOf, codeOf, tableOf}
 use Rattle.heights.specs.Entries.{Covers, Like, Alike}
-use Rattle.heights.specs.Placed.{mirrors-length}
-use Rattle.heights.specs.Theorem.{obeyed}
+use Rattle.heights.specs.Theorem.{obeyed, as-many}
 use Rattle.heights.specs.Accepted.{Fitting, accepted}
 
 -- Where a function's words end, with k entries behind it: where those of the next start, or with the last of n words.
@@ -111,7 +110,7 @@ lent R img code table z = from (accepted R img code table z)
       words = subst (λ (m : Res Program). take (programAnswer m .count) (at-exit wordsOf m code) ≡ wordsOf P) (sym e)
           (subst (λ (n : ℕ). take n (over (wordsOf P) code) ≡ wordsOf P) same (take-over (wordsOf P) code (omega (arith, f .words, same))));
       entries = subst (λ (m : Res Program). Listed (P .table) (entriesIn (length (contractAt img .functions)) (programAnswer m .count) (at-exit (λ (Q : Program). spread threeOf (Q .table)) m table))) (sym e)
-          (subst (λ (k : ℕ). Listed (P .table) (entriesIn k (length (P .words)) (over (spread threeOf (P .table)) table))) (mirrors-length (contractAt img .functions) (P .table) (obeyed R img P (f .is) .mirrors))
+          (subst (λ (k : ℕ). Listed (P .table) (entriesIn k (length (P .words)) (over (spread threeOf (P .table)) table))) (as-many R img P (f .is))
           (entries-read 3 (length (P .words)) (P .table) table (omega (arith, f .table)) (obeyed R img P (f .is) .covers)));
     }
       where

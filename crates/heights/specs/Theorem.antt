@@ -29,7 +29,7 @@ use Rattle.heights.specs.Fits.{Stmts-fit}
 use Rattle.bounds.specs.Answers.{All, all-ok, all-bad, all-bind, all-next, all-map, from-ok}
 use Rattle.heights.specs.Checks.{Takes, takes-one, Bodies-fit, analysis-fits}
 use Rattle.heights.specs.Pieces.{function-closed}
-use Rattle.heights.specs.Placed.{length-link, Mirrors, Laid, covers, Housed, housed, functions-laid}
+use Rattle.heights.specs.Placed.{length-link, Mirrors, Laid, covers, Housed, housed, functions-laid, mirrors-length}
 use Rattle.heights.specs.Judged.{short, Map, certified, comes-home}
 
 -- What is shown of a function's words.
@@ -122,3 +122,7 @@ program-obeys R img = all-bind (judged img) _ (judged-obeys R img) (λ C q. q)
 -- Of an accepted image every function obeys the law.
 pub obeyed : (R : Rules) (img : List ℕ) (P : Program) → program R img ≡ ok P → Obeys (contractAt img .functions) P
 obeyed R img P e = from-ok (subst (All (Obeys (contractAt img .functions))) e (program-obeys R img))
+
+-- It has an entry for each.
+pub as-many : (R : Rules) (img : List ℕ) (P : Program) → program R img ≡ ok P → length (P .table) ≡ length (contractAt img .functions)
+as-many R img P e = mirrors-length (contractAt img .functions) (P .table) (obeyed R img P e .mirrors)
