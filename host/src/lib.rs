@@ -2,7 +2,7 @@
 //!
 //! The compiler behind this crate is written in Rattle and proved: for any bytes whatsoever the answer and every byte of the slice
 //! that is lent are those of its definition (`crates/rules/specs/Build.antt`, `hostOf` and `hostBytes`). It needs no heap, keeps no
-//! state and takes less than 72 KiB of stack, so it may be called from any number of threads at once. No function here panics.
+//! state and takes less than 96 KiB of stack, so it may be called from any number of threads at once. No function here panics.
 //!
 //! From a tree:
 //!

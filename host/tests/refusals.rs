@@ -1,7 +1,7 @@
 //! A failure says what is wrong, once.
 mod common;
 
-use common::{told, tree::*};
+use common::{listed, told, tree::*};
 use haspnettle::{analyse_contract, build, Failure};
 use std::error::Error;
 
@@ -20,6 +20,20 @@ fn analysis_refuses_alike() {
     let failure = build(&lost).unwrap_err();
     assert!(matches!(failure, Failure::Refused(r) if told(r) == (10, 78, 0)));
     assert_eq!(analyse_contract(&lost), Err(failure));
+}
+
+// By its name alone y is ambiguous. The base's struct decides; where that is not declared the build refuses, at the access.
+#[test]
+fn an_ambiguous_field_is_refused() {
+    let of = |ty| {
+        let structs = vec![structure("A", vec![("x", "u64"), ("y", "u64")]), structure("B", vec![("y", "u64")])];
+        contract(vec![], structs, vec![function("main", vec![("p", ty)], None, vec![constrain(access(id("p"), "y"))])])
+    };
+    let failure = build(&of("Open")).unwrap_err();
+    assert!(matches!(failure, Failure::Refused(r) if told(r) == (30, 205, 0)));
+    assert_eq!(failure.to_string(), "ambiguous field (30), at byte 205");
+    assert_eq!(analyse_contract(&of("Open")), Ok(()));
+    assert_eq!(build(&of("A")), Ok(listed("c11").unwrap()));
 }
 
 #[test]

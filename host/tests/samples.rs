@@ -25,7 +25,7 @@ fn every_sample() {
 #[test]
 fn every_sample_is_analysed() {
     for name in samples() {
-        // What is built, and what generation or 30 refuses, passes analysis.
+        // What is built, and what generation refuses, passes analysis.
         let says = listed(&name).map(|_| ()).or_else(|r| if r.0 < 30 { Err(r) } else { Ok(()) });
         assert_eq!(analyse(&sample(&format!("{name}.img"))).map_err(told), says, "{name}");
     }

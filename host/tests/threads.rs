@@ -81,10 +81,10 @@ fn many_threads() {
 }
 
 #[test]
-fn a_stack_of_72_kib() {
+fn a_stack_of_96_kib() {
     let all = all();
     let run = move || all.iter().for_each(holds);
-    thread::Builder::new().stack_size(72 << 10).spawn(run).unwrap().join().unwrap();
+    thread::Builder::new().stack_size(96 << 10).spawn(run).unwrap().join().unwrap();
 }
 
 #[test]

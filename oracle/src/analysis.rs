@@ -1,6 +1,7 @@
 // The analysis of 001, read on the image itself, so that each error has its place.
 use crate::image::*;
 use crate::model::Refusal;
+use std::collections::BTreeMap;
 
 /// 001: Type; names are slices of the image.
 #[derive(Clone, Copy, PartialEq, Eq)]
@@ -75,11 +76,15 @@ pub fn last<'b>(img: &[u8], list: &'b [Rec], x: &[u8]) -> Option<&'b Rec> {
     list.iter().rev().find(|r| name_of(img, r) == x)
 }
 
+/// By the place of an access the struct that its base is of, as last declared; none where the base's type is no declared struct.
+pub type Bases = BTreeMap<usize, Rec>;
+
 struct Sema<'a> {
     img: &'a [u8],
     lists: Lists,
     ret: Ty<'a>,
     env: Vec<(&'a [u8], Ty<'a>)>,
+    bases: Bases,
 }
 
 type Typed<'a> = Result<Ty<'a>, Refusal>;
@@ -88,13 +93,13 @@ fn bad<T>(number: u32, place: usize, text: String) -> Result<T, Refusal> {
     Err(Refusal { number, place, text: format!("SemanticError: {text}") })
 }
 
-/// The first error of 001 over a sound image.
-pub fn analyse(img: &[u8]) -> Result<(), Refusal> {
-    let mut s = Sema { img, lists: lists(img), ret: Void, env: Vec::new() };
+/// The first error of 001 over a sound image, or what it found each access's base to be.
+pub fn analyse(img: &[u8]) -> Result<Bases, Refusal> {
+    let mut s = Sema { img, lists: lists(img), ret: Void, env: Vec::new(), bases: Bases::new() };
     for i in 0..s.lists.functions.len() {
         s.function(s.lists.functions[i])?;
     }
-    Ok(())
+    Ok(s.bases)
 }
 
 impl<'a> Sema<'a> {
@@ -218,9 +223,12 @@ impl<'a> Sema<'a> {
         let x = e.part(self.img, 1).bytes(self.img);
         match base {
             Unknown => Ok(Unknown),
-            Struct(s) => match last(self.img, &self.lists.structs, s) {
+            Struct(s) => match last(self.img, &self.lists.structs, s).copied() {
                 None => Ok(Unknown),
-                Some(r) => self.member(r, x).map_or_else(|| bad(14, e.at, format!("Struct {} has no field {}", text(s), text(x))), Ok),
+                Some(r) => {
+                    self.bases.insert(e.at, r);
+                    self.member(&r, x).map_or_else(|| bad(14, e.at, format!("Struct {} has no field {}", text(s), text(x))), Ok)
+                }
             },
             _ => bad(15, e.at, "Field access on non-struct".into()),
         }

@@ -1,12 +1,21 @@
-// From a seed to an image: sound, mistaken, damaged, deep or at an edge.
+// From a seed to an image: sound, mistaken, damaged, deep, at an edge or rich in accesses.
 use crate::faults::{inject, NUMBERS};
 use crate::gen::{contract, huge, shape, tiny, Shape};
 use crate::image::encode;
 use crate::rng::Rng;
-use crate::{bounds, damage};
+use crate::{accesses, bounds, damage};
 
-/// The image of a seed; images over the bound come only from the edges.
+/// The image of a seed; three in twenty are rich in accesses.
 pub fn image(seed: u64) -> Vec<u8> {
+    match seed % 20 {
+        7 | 17 => accesses::image(seed),
+        12 => accesses::tiny_image(seed),
+        _ => common(seed),
+    }
+}
+
+/// The image of a seed as the stored answers have it; images over the bound come only from the edges.
+pub fn common(seed: u64) -> Vec<u8> {
     let mut rng = Rng::new(seed);
     match rng.below(1000) {
         0..=399 => sound(&mut rng, 0, shape),

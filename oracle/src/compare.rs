@@ -1,9 +1,10 @@
 // The model held against the Rust itself: same words, or same error variant and text.
+use crate::analysis::Bases;
 use crate::codegen::Codegen;
-use crate::generation::Program;
-use crate::model::{ambiguous, analysed, program, Refusal};
+use crate::generation::{generate, Program};
+use crate::model::{ambiguous, analysed, program, program_by_name, was_30, Refusal};
 use crate::sema::SemanticAnalyzer;
-use crate::{ast::Contract, check, generation, grammar, image, places, writer, CompileError};
+use crate::{apart, ast::Contract, check, grammar, image, places, writer, CompileError};
 use std::fmt::Debug;
 
 /// The Rust's error as "Variant: text".
@@ -43,18 +44,26 @@ pub fn hold(img: &[u8]) -> Result<Program, Refusal> {
     let tree = image::decode(img);
     same(img, "writing what was read", &image::encode(&tree)[..], img);
     hold_writer(&tree);
-    let mut sema = SemanticAnalyzer::new();
-    let rust = sema.analyze(&tree).map_err(|e| told(&e)).err().unwrap_or_default();
-    let ours = analysed(img);
-    same(img, "analysis", ours.as_ref().err().map_or("", |r| &r.text), rust.as_str());
-    hold_place(img, ours.as_ref().err());
-    ours?;
-    let words = Codegen::new().generate(&tree).map_err(|e| told(&e));
-    let ours = generation::generate(img);
-    hold_place(img, ours.as_ref().err());
-    hold_ambiguous(img, &words);
-    hold_words(img, ours, words);
-    program(img)
+    let bases = analysed(img);
+    same(img, "analysis", bases.as_ref().err().map_or("", |r| &r.text), analysis_text(&tree).as_str());
+    hold_place(img, bases.as_ref().err());
+    let bases = bases?;
+    hold_place(img, generate(img, &bases).as_ref().err());
+    hold_words(img, &tree, &Bases::new());
+    let answer = program(img);
+    let place_of_30 = answer.as_ref().err().filter(|r| r.number == 30).map(|r| r.place);
+    same(img, "30, given exactly where an access is ambiguous", place_of_30, ambiguous(img, &bases));
+    if was_30(img) {
+        hold_apart(img, &bases);
+    } else {
+        same(img, "the rule by the name alone", &program_by_name(img), &answer);
+    }
+    answer
+}
+
+/// What the Rust's analysis says of a tree; nothing where it passes.
+pub fn analysis_text(tree: &Contract) -> String {
+    SemanticAnalyzer::new().analyze(tree).err().map_or(String::new(), |e| told(&e))
 }
 
 /// The crate's writer: the oracle's image, and none exactly where the check refuses that.
@@ -64,15 +73,30 @@ pub fn hold_writer(tree: &Contract) {
     same(&img, "the crate's writer", due, writer::image(tree).ok().as_deref());
 }
 
-// 30: the Rust's words change from run to run, and by the access at the place; an error hides it.
-fn hold_ambiguous(img: &[u8], words: &Result<Vec<u64>, String>) {
-    let Some(place) = ambiguous(img).filter(|_| words.is_ok()) else { return };
-    let varies = |img: &[u8], runs| {
-        let tree = image::decode(img);
+// Where the name alone does not decide: the Rust on the fields renamed apart, and of each base.
+fn hold_apart(img: &[u8], bases: &Bases) {
+    if let Err(why) = apart::bases_hold(img, bases) {
+        disagree(img, "the struct of a base", "another", &why);
+    }
+    let tree = image::decode(&apart::parted(img, bases));
+    same(img, "analysis, the fields renamed apart", "", &analysis_text(&tree));
+    hold_words(img, &tree, bases);
+    let table = |bases| generate(img, bases).ok().map(|p| p.table);
+    same(img, "the table by either rule", table(bases), table(&Bases::new()));
+    if let Some(place) = ambiguous(img, bases) {
+        hold_ambiguous(img, bases, place);
+    }
+}
+
+// 30: the Rust's words, the fields renamed apart, change from run to run, and by the access at the place; an error hides it.
+fn hold_ambiguous(img: &[u8], bases: &Bases, place: usize) {
+    let varies = |from, runs| {
+        let left = apart::misnamed(img, |at| at >= from && !bases.contains_key(&at));
+        let tree = image::decode(&apart::parted(&left, bases));
         let first = Codegen::new().generate(&tree);
         (0..runs).any(|_| Codegen::new().generate(&tree) != first)
     };
-    if varies(&places::renamed(img, place), 8) || !varies(&places::renamed(img, place + 1), 200) {
+    if generate(img, bases).is_ok() && (varies(place, 8) || !varies(place + 1, 200)) {
         disagree(img, "30", &format!("the words vary from {place} on"), "they do not");
     }
 }
@@ -83,14 +107,14 @@ fn hold_place(img: &[u8], r: Option<&Refusal>) {
     }
 }
 
-// Under 30 the offsets of accesses follow the order of a HashMap: all else is compared.
-fn hold_words(img: &[u8], ours: Result<Program, Refusal>, rust: Result<Vec<u64>, String>) {
-    let undecided = ambiguous(img).is_some();
-    match (ours, rust) {
+// The Rust's words of a tree. Where two structs tell an offset differently it follows the order of a HashMap: all else is compared.
+fn hold_words(img: &[u8], tree: &Contract, bases: &Bases) {
+    let rust = Codegen::new().generate(tree).map_err(|e| told(&e));
+    match (generate(img, bases), rust) {
         (Err(r), Err(text)) => same(img, "generation", &r.text, &text),
         (Ok(p), Ok(mut words)) => {
-            if undecided && p.words.len() == words.len() {
-                p.accesses.iter().for_each(|&i| words[i] = p.words[i]);
+            if p.words.len() == words.len() {
+                p.undecided.iter().for_each(|&i| words[i] = p.words[i]);
             }
             same(img, "words", &p.words, &words);
         }

@@ -9,6 +9,7 @@ pub const NUMBERS: [u32; 22] = [10, 11, 12, 13, 14, 15, 16, 17, 18, 19, 20, 21, 
 /// Puts a mistake into a contract; nothing in front of it may be one.
 pub fn inject(rng: &mut Rng, c: &mut Contract, number: u32) {
     match number {
+        // By its name the field is ambiguous; by its base, which is declared, it is not.
         30 => {
             c.structs.push(structure("Zt", vec![("zb", "u64")]));
             place(rng, c, vec![does(access(literal("Zs", vec![]), "zb"))]);

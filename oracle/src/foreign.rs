@@ -1,6 +1,6 @@
 // A static library's entries (HASP_LIB, one cargo feature each) against the model.
-use crate::model::{analysed, build, host, program, Answer, Refusal};
-use crate::{bounds, cases, check, compare, generation::Program};
+use crate::model::{analysed, build, host, program, was_30, Answer, Refusal};
+use crate::{bounds, check, compare, generation::Program};
 
 /// What stands around and in the slices that are lent.
 const POISON: u64 = 0xA5A5_A5A5_A5A5_A5A5;
@@ -53,25 +53,28 @@ pub fn lib_host(_img: &[u8], _out: &mut [u8]) -> u64 {
 }
 
 /// Compares what is linked over n seeds and every edge, on a thread with a stack of HASP_STACK bytes (2 MiB).
-pub fn compare(n: u64, seed: u64) -> Result<(), String> {
+pub fn compare(n: u64, seed: u64, image: fn(u64) -> Vec<u8>) -> Result<(), String> {
     if !ANY {
         return Err("no entry is linked: build with --features check,build,host and HASP_LIB".into());
     }
     let stack = std::env::var("HASP_STACK").ok().and_then(|s| s.parse().ok()).unwrap_or(2 << 20);
-    let thread = std::thread::Builder::new().stack_size(stack).spawn(move || all(n, seed)).map_err(|e| e.to_string())?;
+    let thread = std::thread::Builder::new().stack_size(stack).spawn(move || all(n, seed, image)).map_err(|e| e.to_string())?;
     thread.join().map_err(|_| "the comparing thread broke".to_string())?
 }
 
-fn all(n: u64, seed: u64) -> Result<(), String> {
+fn all(n: u64, seed: u64, image: fn(u64) -> Vec<u8>) -> Result<(), String> {
     for (what, img) in &bounds::all() {
         one(img).map_err(|e| format!("{what}: {e}"))?;
     }
+    let mut newly = 0;
     for s in seed..seed + n {
-        one(&cases::image(s)).map_err(|e| format!("seed {s}: {e}"))?;
+        let img = image(s);
+        one(&img).map_err(|e| format!("seed {s}: {e}"))?;
+        newly += (was_30(&img) && program(&img).is_ok()) as u64;
     }
     let linked = [("check", CHECK), ("build", BUILD), ("host_analyse, host_build", HOST)];
     let names: Vec<&str> = linked.iter().filter(|l| l.1).map(|l| l.0).collect();
-    println!("{n} seeds and every edge: {} equal", names.join(", "));
+    println!("{n} seeds, {newly} of them newly built, and every edge: {} equal", names.join(", "));
     Ok(())
 }
 

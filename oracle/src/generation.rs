@@ -1,5 +1,5 @@
 // The generation of 000, read on the image itself, so that each error has its place.
-use crate::analysis::{builtin_arity, last, lists, name_of, text, Lists};
+use crate::analysis::{builtin_arity, last, lists, name_of, text, Bases, Lists};
 use crate::image::*;
 use crate::model::Refusal;
 
@@ -27,21 +27,23 @@ const VERIFY: u8 = 0x1E;
 const BINARIES: [u8; 10] = [0x01, 0x02, 0x03, 0x04, 0x0A, 0x0B, 0x0C, 0x0D, 0x0E, 0x0F];
 const HEAP: u8 = 31;
 
-/// A finished program: its words, an entry for each function, the words whose offset is a field's.
+/// A finished program: its words, an entry for each function, the words whose offset two structs tell differently.
+#[derive(Debug, PartialEq, Eq)]
 pub struct Program {
     pub words: Vec<u64>,
     pub table: Vec<[u64; 3]>,
-    pub accesses: Vec<usize>,
+    pub undecided: Vec<usize>,
 }
 
 struct Gen<'a> {
     img: &'a [u8],
+    bases: &'a Bases,
     lists: Lists,
     words: Vec<u64>,
     next: u8,
     scope: Vec<(&'a [u8], u8)>,
     calls: Vec<(usize, &'a [u8])>,
-    accesses: Vec<usize>,
+    undecided: Vec<usize>,
 }
 
 type Done = Result<(), Refusal>;
@@ -57,8 +59,8 @@ pub fn word(op: u8, rd: u8, rs1: u8, rs2: u8, imm: i64) -> u64 {
 }
 
 /// 000: generate, over a sound image that analysis accepts. 40 beats everything.
-pub fn generate(img: &[u8]) -> Result<Program, Refusal> {
-    let mut g = Gen { img, lists: lists(img), words: vec![], next: 1, scope: vec![], calls: vec![], accesses: vec![] };
+pub fn generate(img: &[u8], bases: &Bases) -> Result<Program, Refusal> {
+    let mut g = Gen { img, bases, lists: lists(img), words: vec![], next: 1, scope: vec![], calls: vec![], undecided: vec![] };
     if last(img, &g.lists.functions, b"main").is_none() {
         return bad(40, 0, "main function not found".into());
     }
@@ -74,7 +76,7 @@ pub fn generate(img: &[u8]) -> Result<Program, Refusal> {
         g.function(f, params)?;
     }
     g.link(&table);
-    Ok(Program { words: g.words, table, accesses: g.accesses })
+    Ok(Program { words: g.words, table, undecided: g.undecided })
 }
 
 impl<'a> Gen<'a> {
@@ -357,9 +359,11 @@ impl<'a> Gen<'a> {
     fn access(&mut self, e: Rec) -> InReg {
         let base = self.expr(e.part(self.img, 0))?;
         let reg = self.alloc(e.at)?;
-        let offset = positions(self.img, &self.lists.structs, e.part(self.img, 1).bytes(self.img)).first().map_or(0, |p| p * 8);
-        self.accesses.push(self.here());
-        self.emit(LOAD, reg, base, 0, offset as i64);
+        let found = positions(self.img, &self.lists.structs, self.bases, e);
+        if found.len() > 1 {
+            self.undecided.push(self.here());
+        }
+        self.emit(LOAD, reg, base, 0, found.first().map_or(0, |p| p * 8) as i64);
         Ok(reg)
     }
 
@@ -443,15 +447,20 @@ impl<'a> Gen<'a> {
     }
 }
 
-/// The first positions of a field in the structs that are the last of their names, each once.
-pub fn positions(img: &[u8], structs: &[Rec], x: &[u8]) -> Vec<usize> {
+/// The first positions of an access's field: in its base's struct if that is declared, else in all that are the last of their names, each once.
+pub fn positions(img: &[u8], structs: &[Rec], bases: &Bases, e: Rec) -> Vec<usize> {
+    let x = e.part(img, 1).bytes(img);
+    let first = |s: &Rec| s.part(img, 1).parts(img).position(|f| name_of(img, &f) == x);
+    if let Some(s) = bases.get(&e.at) {
+        return first(s).into_iter().collect();
+    }
     let mut found = Vec::new();
     for (i, s) in structs.iter().enumerate() {
         let name = name_of(img, s);
         if structs[i + 1..].iter().any(|t| name_of(img, t) == name) {
             continue;
         }
-        match s.part(img, 1).parts(img).position(|f| name_of(img, &f) == x) {
+        match first(s) {
             Some(p) if !found.contains(&p) => found.push(p),
             _ => {}
         }

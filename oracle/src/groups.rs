@@ -21,6 +21,7 @@ pub fn all() -> Vec<Group> {
         one("64-byte names, equal but for the end", long_names()),
         one("350 long field names", long_fields()),
         one("40 structs, 600 accesses", accesses()),
+        one("7 structs of 50 fields, 230 accesses", shared_fields()),
         ("deep: expressions 50, statements 28", vec![encode(&deep_expr()), encode(&deep_stmt())]),
         one("400 locals, 800 uses", locals()),
         one("3,276 statements, 64 KiB", edges::sized(65_536)),
@@ -73,6 +74,17 @@ fn accesses() -> Contract {
     let of = |s: usize| Struct { name: format!("Struct_{s}"), fields: (0..5).map(|i| field(&name(s, i), "u64")).collect() };
     let body = (0..600).map(|i| does(access(literal(&format!("Struct_{}", i % 40), vec![]), &name(i % 40, i % 5)))).collect();
     contract(vec![], (0..40).map(of).collect(), vec![function("main", vec![], None, body)])
+}
+
+// Seven structs of the same fields in the same order, whose names differ behind 48 bytes, and accesses to the last one. So the Rust's words do
+// not change from run to run, and it compares 50 names an access, in whichever struct it finds first.
+fn shared_fields() -> Contract {
+    let name = |i: usize| format!("{}{i:02}", &long(0)[..48]);
+    let of = |s: usize| Struct { name: format!("Struct_{s}"), fields: (0..50).map(|i| field(&name(i), "u64")).collect() };
+    let params: Vec<_> = (0..7).map(|s| (format!("p{s}"), format!("Struct_{s}"))).collect();
+    let params = params.iter().map(|(p, s)| (p.as_str(), s.as_str())).collect();
+    let body = (0..230).map(|i| does(access(id(&format!("p{}", i % 7)), &name(49)))).collect();
+    contract(vec![], (0..7).map(of).collect(), vec![function("main", params, None, body)])
 }
 
 fn deep_expr() -> Contract {

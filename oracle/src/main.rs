@@ -1,7 +1,9 @@
 // The Rust as the judge: see README.md for the commands.
 extern crate self as bud_isa; // codegen.rs names the word crate so
 
+mod accesses;
 mod analysis;
+mod apart;
 mod bench;
 mod bounds;
 mod cases;
@@ -16,6 +18,7 @@ mod grammar;
 mod groups;
 mod image;
 mod kept;
+mod meant;
 mod model;
 mod node;
 mod places;
@@ -59,8 +62,8 @@ pub use isa::{Instruction, IsaProfile, Opcode};
 
 use std::process::exit;
 
-const USE: &str = "use: oracle [selfcheck N | gen SEED COUNT DIR | answer FILE [ROOM TABLE] | analyse FILE | text FILE | \
-listing PROGRAM N [SEED] | staticlib N [SEED] | bench [ROUNDS] | store DIR | replay FILE | samples DIR | kept]";
+const USE: &str = "use: oracle [selfcheck [accesses] N | gen SEED COUNT DIR | answer FILE [ROOM TABLE] | analyse FILE | text FILE | \
+listing PROGRAM N [SEED] | staticlib [accesses] N [SEED] | bench [ROUNDS] | store DIR | replay FILE | samples DIR | kept]";
 
 type Said = Result<(), String>;
 
@@ -75,9 +78,9 @@ fn main() {
 
 fn command(words: &[&str]) -> Said {
     match words {
-        [] => selfcheck::run(50_000),
-        ["selfcheck"] => selfcheck::run(50_000),
-        ["selfcheck", n] => selfcheck::run(number(n)?),
+        [] | ["selfcheck"] => selfcheck::run(50_000, cases::image),
+        ["selfcheck", "accesses", n] => selfcheck::run(number(n)?, accesses::image),
+        ["selfcheck", n] => selfcheck::run(number(n)?, cases::image),
         ["gen", seed, count, dir] => generate(number(seed)?, number(count)?, dir),
         ["answer", file] => answer(file, samples::ROOM, samples::TABLE),
         ["answer", file, room, table] => answer(file, number(room)? as usize, number(table)? as usize),
@@ -85,8 +88,10 @@ fn command(words: &[&str]) -> Said {
         ["text", file] => text(file),
         ["listing", program, n] => selfcheck::listing(program, number(n)?, 0),
         ["listing", program, n, seed] => selfcheck::listing(program, number(n)?, number(seed)?),
-        ["staticlib", n] => foreign::compare(number(n)?, 0),
-        ["staticlib", n, seed] => foreign::compare(number(n)?, number(seed)?),
+        ["staticlib", "accesses", n] => foreign::compare(number(n)?, 0, accesses::image),
+        ["staticlib", "accesses", n, seed] => foreign::compare(number(n)?, number(seed)?, accesses::image),
+        ["staticlib", n] => foreign::compare(number(n)?, 0, cases::image),
+        ["staticlib", n, seed] => foreign::compare(number(n)?, number(seed)?, cases::image),
         ["bench"] => bench::run(9),
         ["bench", rounds] => bench::run(number(rounds)?),
         ["store", dir] => store::store(dir),
@@ -121,7 +126,7 @@ fn answer(file: &str, room: usize, table: usize) -> Said {
 
 fn analyse(file: &str) -> Said {
     match model::analysed(&load(file)?) {
-        Ok(()) => println!("analysed"),
+        Ok(_) => println!("analysed"),
         Err(r) => println!("refused {} {} 0", r.number, r.place),
     }
     Ok(())

@@ -1,5 +1,5 @@
-// Document 01's answers: check, analysis, 30, generation, room.
-use crate::analysis::{analyse, lists};
+// Document 01's answers: check, analysis, 30, generation, room. Which struct an access means is as document 02 mends it (P2).
+use crate::analysis::{analyse, lists, Bases};
 use crate::check::{check, Fault};
 use crate::generation::{generate, positions, Program};
 use crate::image::*;
@@ -37,34 +37,47 @@ impl Answer {
 }
 
 /// Analyse: stops before 30 and writes nothing.
-pub fn analysed(img: &[u8]) -> Result<(), Refusal> {
+pub fn analysed(img: &[u8]) -> Result<Bases, Refusal> {
     check(img)?;
     analyse(img)
 }
 
-/// The first field access, in image order, whose offset two structs tell differently.
-pub fn ambiguous(img: &[u8]) -> Option<usize> {
+/// The first field access, in image order, whose offset two structs tell differently; where the base's struct is declared only that one tells it.
+pub fn ambiguous(img: &[u8], bases: &Bases) -> Option<usize> {
     let structs = lists(img).structs;
-    fn walk(img: &[u8], structs: &[Rec], r: Rec) -> Option<usize> {
-        if r.kind == FIELD_ACCESS && positions(img, structs, r.part(img, 1).bytes(img)).len() > 1 {
+    fn walk(img: &[u8], structs: &[Rec], bases: &Bases, r: Rec) -> Option<usize> {
+        if r.kind == FIELD_ACCESS && positions(img, structs, bases, r).len() > 1 {
             return Some(r.at);
         }
         if is_leaf(r.kind) {
             None
         } else {
-            r.parts(img).find_map(|p| walk(img, structs, p))
+            r.parts(img).find_map(|p| walk(img, structs, bases, p))
         }
     }
-    walk(img, &structs, rec_at(img, 0))
+    walk(img, &structs, bases, rec_at(img, 0))
 }
 
 /// Everything that does not depend on the room.
 pub fn program(img: &[u8]) -> Result<Program, Refusal> {
-    analysed(img)?;
-    if let Some(place) = ambiguous(img) {
-        return Err(Refusal { number: 30, place, text: String::new() });
+    analysed(img).and_then(|bases| behind_analysis(img, &bases))
+}
+
+/// The same by the rule that was there before: the field's name decides, whatever the base is, as if the struct of none were declared.
+pub fn program_by_name(img: &[u8]) -> Result<Program, Refusal> {
+    analysed(img).and_then(|_| behind_analysis(img, &Bases::new()))
+}
+
+/// Whether that rule gives 30: there the Rust's own words change from run to run.
+pub fn was_30(img: &[u8]) -> bool {
+    program_by_name(img).is_err_and(|r| r.number == 30)
+}
+
+fn behind_analysis(img: &[u8], bases: &Bases) -> Result<Program, Refusal> {
+    match ambiguous(img, bases) {
+        Some(place) => Err(Refusal { number: 30, place, text: String::new() }),
+        None => generate(img, bases),
     }
-    generate(img)
 }
 
 /// Build: fills the lent slices; the table holds three numbers an entry.

@@ -56,19 +56,6 @@ pub fn stands(img: &[u8], r: &Refusal) -> Result<(), String> {
     in_statement(stmt, here, r, &with, &spared)
 }
 
-/// The image with another field named, one that no struct has, in each access from a place on.
-pub fn renamed(img: &[u8], from: usize) -> Vec<u8> {
-    fn rename(n: &mut Node, from: usize) {
-        if n.kind == FIELD_ACCESS && n.at >= from {
-            n.parts[1].bytes = b"no:such:field".to_vec();
-        }
-        n.parts.iter_mut().for_each(|p| rename(p, from));
-    }
-    let mut top = Node::read(img, rec_at(img, 0));
-    rename(&mut top, from);
-    top.image()
-}
-
 // What stands in the statement before the expression, and the expression with what its error needs around it.
 fn split(stmt: &Node, here: &Node, r: &Refusal) -> Result<(Vec<Node>, Node), String> {
     let mut earlier = Vec::new();

@@ -117,7 +117,8 @@ fn types() -> Vec<Sample> {
     let own = function("poseidon", vec![("a", "u64")], None, vec![]);
     let c14 = function("main", vec![], None, vec![does(call("poseidon", vec![int(1)]))]);
     vec![
-        of("c11", taking("A", vec![a, b], access(id("p"), "y")), 30, 0),
+        // Document 01 has 30 here; document 02 mends it (P2).
+        of("c11", taking("A", vec![a, b], access(id("p"), "y")), 0, 13).says(vec![(6, word(LOAD, 3, 2, 0, 8))]),
         of("c12", taking("Foo", vec![], access(id("p"), "x")), 0, 13).says(vec![(6, word(LOAD, 3, 2, 0, 0))]),
         of("c13", contract(vec![], vec![], vec![void, c13]), 12, 0),
         of("c14", contract(vec![], vec![], vec![own, c14]), 19, 0),

@@ -1,8 +1,8 @@
 // The model against the Rust over many seeds, and a listing program against the model.
 use crate::image::{is_leaf, rec_at, Rec};
-use crate::model::{build, host, Answer};
+use crate::model::{build, host, was_30, Answer};
 use crate::samples::{ROOM, TABLE};
-use crate::{bounds, cases, compare, samples, store};
+use crate::{bounds, cases, compare, meant, samples, store};
 use std::collections::BTreeMap;
 use std::io::Write;
 use std::process::{Command, Stdio};
@@ -12,24 +12,30 @@ pub const EVERY: [u32; 32] =
     [0, 1, 2, 3, 4, 5, 6, 7, 10, 11, 12, 13, 14, 15, 16, 17, 18, 19, 20, 21, 22, 30, 40, 41, 42, 43, 44, 45, 46, 47, 50, 51];
 const POISON: u64 = 0xA5A5_A5A5_A5A5_A5A5;
 
-/// How often each number was given, and how often each kind of record was built.
+/// How often each number was given, and how often each kind of record was built; of how many images the Rust was heard with the fields
+/// renamed apart, and how many of them are built.
 #[derive(Default)]
 struct Hits {
     answers: BTreeMap<u32, u64>,
     built: BTreeMap<u16, u64>,
+    apart: u64,
+    newly: u64,
 }
 
-pub fn run(seeds: u64) -> Result<(), String> {
+pub fn run(seeds: u64, image: fn(u64) -> Vec<u8>) -> Result<(), String> {
     let mut hits = Hits::default();
-    samples_hold()?;
+    samples_hold(&mut hits)?;
+    meant::all().iter().try_for_each(|c| c.holds())?;
     for (_, tree) in bounds::trees().iter().chain(&bounds::large_trees()) {
         compare::hold_writer(tree);
     }
     for (_, img) in &bounds::all() {
         hold(img, &mut hits)?;
     }
+    // These two are told of the seeds alone.
+    (hits.apart, hits.newly) = (0, 0);
     for seed in 0..seeds {
-        hold(&cases::image(seed), &mut hits).map_err(|e| format!("seed {seed}: {e}"))?;
+        hold(&image(seed), &mut hits).map_err(|e| format!("seed {seed}: {e}"))?;
     }
     println!("answers by number, 16 rooms an image:");
     for (number, count) in &hits.answers {
@@ -43,13 +49,15 @@ pub fn run(seeds: u64) -> Result<(), String> {
     if !unused.is_empty() {
         return Err(format!("no built contract has records of kind {unused:?}"));
     }
-    println!("{seeds} seeds: no disagreement, every number given");
+    println!("{seeds} seeds and every edge: no disagreement, every number given");
+    println!("{} of the seeds judged by the Rust with the fields renamed apart, {} of them newly built", hits.apart, hits.newly);
     Ok(())
 }
 
-// Document 01's own words on its samples.
-fn samples_hold() -> Result<(), String> {
+// Document 01's own words on its samples; of C11 document 02's.
+fn samples_hold(hits: &mut Hits) -> Result<(), String> {
     for s in samples::all() {
+        hold(&s.image, hits)?;
         let p = compare::hold(&s.image);
         let a = build(&p, &mut vec![0; s.room], &mut vec![0; s.table]);
         if (a.refusal, a.count) != (s.refusal, s.count) || s.place.is_some_and(|p| p != a.place) {
@@ -68,6 +76,10 @@ fn hold(img: &[u8], hits: &mut Hits) -> Result<(), String> {
     let p = compare::hold(img);
     if p.is_ok() {
         count(img, rec_at(img, 0), &mut hits.built);
+    }
+    if was_30(img) && p.as_ref().err().is_none_or(|r| r.number != 30) {
+        hits.apart += 1;
+        hits.newly += p.is_ok() as u64;
     }
     let (words, numbers) = p.as_ref().map_or((3, 3), |p| (p.words.len(), 3 * p.table.len()));
     for room in cases::rooms(words) {

@@ -3,13 +3,13 @@ use crate::ast::Stmt;
 use crate::gen::{contract, tiny};
 use crate::generation::Program;
 use crate::image::*;
-use crate::model::{analysed, build, program, Answer, Refusal};
+use crate::model::{analysed, build, program, program_by_name, was_30, Answer, Refusal};
 use crate::node::Node;
 use crate::rng::Rng;
 use crate::samples::{ROOM, TABLE};
 use crate::selfcheck::EVERY;
 use crate::tree::{if_, int, main_of};
-use crate::{bounds, cases, compare, damage, kept, samples, tricks};
+use crate::{accesses, bounds, cases, compare, damage, kept, meant, samples, tricks};
 use std::collections::{BTreeMap, BTreeSet};
 
 const MAGIC: &[u8; 8] = b"HASPANS1";
@@ -25,7 +25,7 @@ const SEEDS: u64 = 200_000;
 /// At least so many of each refusal but 1, whose images are over 65,536 bytes.
 const EACH: usize = 40;
 const LEAST: usize = 2_000;
-/// The most bytes of an image: small, larger, too deep, over a bound.
+/// The most bytes of an image: small, larger, too deep or out of registers, over a bound.
 const SMALL: usize = 310;
 const LARGER: usize = 1_000;
 const DEEPER: usize = 1_500;
@@ -59,6 +59,8 @@ pub fn fnv(numbers: &[u64]) -> u64 {
     bytes.fold(0xCBF2_9CE4_8422_2325, |h, b| (h ^ b as u64).wrapping_mul(0x0000_0100_0000_01B3))
 }
 
+type Answers = fn(&[u8]) -> Result<Program, Refusal>;
+
 /// The cases chosen so far.
 #[derive(Default)]
 struct Stored {
@@ -83,6 +85,8 @@ pub fn store(dir: &str) -> Result<(), String> {
     let few = worse.iter().filter(|e| e.1.len() < WORSE).chain(worse.iter().filter(|e| e.0 == "513 Lets").nth(3));
     few.for_each(|e| all.case(&e.1, 4, 6));
     all.seeds();
+    meant::all().iter().for_each(|c| all.case(&c.image(), 128, 16));
+    all.newly();
     all.complete()?;
     let file = all.file(&wrong());
     crate::save(&format!("{dir}/answers.bin"), &file)?;
@@ -173,26 +177,43 @@ impl Stored {
         damage::every(other).iter().for_each(|img| self.case(img, 12, 6));
     }
 
-    // Small images from seeds, so many of each number, then a few larger ones.
+    // Small images from seeds, so many of each number, then a few larger ones. The number is that by the name alone, so that the file
+    // keeps the images that it had before accesses went by their bases.
     fn seeds(&mut self) {
-        self.quotas(cases::tiny_image, SMALL, |n| if n == 0 { 600 } else { EACH });
-        self.quotas(cases::image, LARGER, |n| match n {
+        let quotas = |all: &mut Self, image, most, quota| all.quotas(image, most, program_by_name, quota);
+        quotas(self, cases::tiny_image, SMALL, |n| if n == 0 { 600 } else { EACH });
+        quotas(self, cases::common, LARGER, |n| match n {
             0 => 18,
             41 => 25,
             _ => 2,
         });
-        self.quotas(too_deep, DEEPER, |n| if n == 6 { EACH } else { 0 });
-        self.quotas(too_many, WORSE, |n| if n == 7 { EACH / 2 } else { 0 });
+        quotas(self, too_deep, DEEPER, |n| if n == 6 { EACH } else { 0 });
+        quotas(self, too_many, WORSE, |n| if n == 7 { EACH / 2 } else { 0 });
     }
 
-    fn quotas(&mut self, image: fn(u64) -> Vec<u8>, most: usize, quota: fn(u32) -> usize) {
+    // Images that are 30 by the name alone: small ones that are built now or still 30, then a few larger ones, of 41 too.
+    fn newly(&mut self) {
+        self.quotas(
+            |seed| doubtful(accesses::tiny_image, seed),
+            SMALL,
+            program,
+            |n| match n {
+                0 => 250,
+                30 => EACH,
+                _ => 0,
+            },
+        );
+        self.quotas(|seed| doubtful(accesses::image, seed), DEEPER, program, |n| if n == 0 || n == 41 { 7 } else { 0 });
+    }
+
+    fn quotas(&mut self, image: fn(u64) -> Vec<u8>, most: usize, answer: Answers, quota: fn(u32) -> usize) {
         let mut left: BTreeMap<u32, usize> = EVERY.into_iter().map(|n| (n, quota(n))).collect();
         for seed in SEED..SEED + SEEDS {
             if left.values().all(|n| *n == 0) {
                 return;
             }
             let img = image(seed);
-            let p = program(&img);
+            let p = answer(&img);
             let number = p.as_ref().map_or_else(|r| r.number, |_| 0);
             let left = left.get_mut(&number).expect("a number of document 01");
             if *left > 0 && img.len() <= most {
@@ -213,6 +234,11 @@ impl Stored {
         }
         Ok(())
     }
+}
+
+// The next contract that the name alone does not decide.
+fn doubtful(image: fn(u64) -> Vec<u8>, seed: u64) -> Vec<u8> {
+    (100 * seed..).map(image).find(|img| was_30(img)).expect("a seed")
 }
 
 // A contract with a record at depth 65.

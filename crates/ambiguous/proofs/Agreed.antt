@@ -23,12 +23,12 @@ use Rattle.rules.specs.Tables.{last, first-index}
 use Rattle.rules.specs.Tree.{Field, Struct}
 use Rattle.rules.specs.Read.{second, placesFrom, nameIn, fieldAt, fieldsAt, structAt, contractAt}
 use Rattle.rules.specs.Layout.{kept, layouts, withPosition, positions}
-use Rattle.rules.specs.Ambiguous.{differs, apart, isAmbiguous}
+use Rattle.rules.specs.Ambiguous.{differs, apart}
 use Rattle.records.specs.Keys.{keyOf}
 use Rattle.records.specs.Names.{name-eq}
 use Rattle.tables.specs.Listed.{structsIn}
 use Rattle.ambiguous.specs.declared.Spot.the-variants as spot
-use Rattle.ambiguous.specs.Spots.{spotOf}
+use Rattle.ambiguous.specs.Spots.{spotOf, unsure}
 use Rattle.ambiguous.specs.Slots.{look, looked, Extends, Slot, Noted, Held}
 use Rattle.fields.specs.Steps.{field-zero, field-end, field-here, field-next}
 
@@ -243,6 +243,6 @@ module _ (img : List ℕ) where
         (λ n q. no-differs n ps (h 0 (omega arith) .at x n q) (λ j b. h (suc j) (omega arith)))
         (no-apart ps (λ j b. h (suc j) (omega arith)))
 
-  pub agreed : (t : List ℕ) → AllHeld t (structsIn img) → (x : Name) → isAmbiguous (contractAt img) x ≡ false
-  unfolding isAmbiguous contractAt
+  pub agreed : (t : List ℕ) → AllHeld t (structsIn img) → (x : Name) → unsure (contractAt img) x ≡ false
+  unfolding unsure contractAt
   agreed t h x = no-apart t x (structsIn img) h

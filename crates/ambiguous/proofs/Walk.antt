@@ -19,10 +19,12 @@ use Rattle.rules.specs.Tables.{orElse}
 use Rattle.rules.specs.Tree.{Expr, Exprs, Inits, Stmt, Stmts, Function, Contract}
 use Rattle.rules.specs.Read.{kindOf, kInt, kIdent, kStorage, kOther, exprAs, exprsFrom, initsFrom, stmtAt, stmtsFrom, bodyAt, functionAt, contractAt, second, fifth}
 use Rattle.rules.specs.Ambiguous.{isAmbiguous, inExpr, inExprs, inInits, inStmt, inStmts, inFunctions, firstAmbiguous}
+use Rattle.before.specs.Old.{ambiguous-before}
+use Rattle.before.specs.Meant.{still-clear}
 use Rattle.tables.specs.Listed.{functionsIn}
 use Rattle.ambiguous.specs.declared.Spot.{Spot}
 use Rattle.ambiguous.specs.declared.Spot.the-variants as spot
-use Rattle.ambiguous.specs.Spots.{spotOf}
+use Rattle.ambiguous.specs.Spots.{spotOf, unsure}
 use Rattle.ambiguous.proofs.Trees.{exprs-zero, exprs-end, exprs-more, inits-zero, inits-end, inits-more, stmts-zero, stmts-end, stmts-more}
 
 pub then-first : {a : Spot} {p : ℕ} {x : Option ℕ} (y : Option ℕ) → a ≡ spot.At p → spotOf a ≡ x → spotOf a ≡ orElse x y
@@ -137,7 +139,12 @@ module _ (img : List ℕ) where
       functions-next q w = rw (drop-cons (functionsIn img) i 0 h, ← w, q, add-one)
 
 -- Where no field is ambiguous there is no answer.
-module _ (C : Contract) (clear : (x : Name) → isAmbiguous C x ≡ false) where
+module _ (C : Contract) (clear : (x : Name) → unsure C x ≡ false) where
+  -- 02: P2: nor then is an access.
+  sure : (p : ℕ) (x : Name) → isAmbiguous C p x ≡ false
+  unfolding unsure
+  sure p x = still-clear C p x (ambiguous-before C p x ∙ clear x)
+
   mutual
     unfolding inExpr inExprs inInits orElse pick
 
@@ -147,7 +154,7 @@ module _ (C : Contract) (clear : (x : Name) → isAmbiguous C x ≡ false) where
     no-expr (Expr.ident p x) = refl
     no-expr (Expr.storage-read p x) = refl
     no-expr (Expr.mapping-read p x e) = no-expr e
-    no-expr (Expr.field-access p e x) = rw (clear x, no-expr e)
+    no-expr (Expr.field-access p e x) = rw (sure p x, no-expr e)
     no-expr (Expr.literal p x is) = no-inits is
     no-expr (Expr.binary p a o b) = rw (no-expr a, no-expr b)
     no-expr (Expr.call p f es) = no-exprs es

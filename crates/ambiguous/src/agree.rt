@@ -8,9 +8,9 @@ ghost use Prim.Native.Nat.{ℕ, _<_, _≤_};
 ghost use lib.ListN.{length, getD};
 ghost use Rattle.rules.specs.Bytes.{Name};
 ghost use Rattle.rules.specs.Read.{contractAt};
-ghost use Rattle.rules.specs.Ambiguous.{isAmbiguous};
 ghost use Rattle.tables.specs.Listed.{Tabled};
 ghost use Rattle.ambiguous.specs.declared.Spot.the-variants as spot;
+ghost use Rattle.ambiguous.specs.Spots.{unsure};
 ghost use Rattle.ambiguous.specs.Slots.{Slot, Noted, Held, Extends};
 use crate::Spot;
 
@@ -90,7 +90,7 @@ fn forget(seen: &mut [usize])
 // No field has two positions. The table stands in what is lent, and is left there.
 pub fn all_agree(seen: &mut [usize; records::NAMES], img: &[u8], tables: &[usize]) -> bool
     requires { ⌜ Tabled (now img) (now tables) ⌝ }
-    ensures { λ r. ⌜ (r ≡ true → (x : Name) → isAmbiguous (contractAt (now (img .entry))) x ≡ false) ⌝ }
+    ensures { λ r. ⌜ (r ≡ true → (x : Name) → unsure (contractAt (now (img .entry))) x ≡ false) ⌝ }
 {
     forget(seen);
     let n = tables::struct_count(tables);

@@ -9,11 +9,13 @@ use native.Mathlib.Omega.{arith}
 use lib.Dec.{eqb}
 use lib.ListN.{length, length-map}
 use Rattle.rules.specs.declared.Seen.the-variants.{Sound}
-use Rattle.rules.specs.Bytes.{pick, kindAt, inside, after, _or_, _and_}
+use Rattle.rules.specs.Bytes.{pick, kindAt, inside, after}
 use Rattle.rules.specs.Grammar as due
 use Rattle.rules.specs.Grammar.{classes, classOf, records, partsOf, partOf, dueAt}
 use Rattle.rules.specs.Check.{counts, varsIn, startOf, recordOf, checkOf}
-use Rattle.rules.specs.Tree.{Function}
+use Rattle.rules.specs.Tree.{Function, Contract}
+use Rattle.rules.specs.Types.{Typ, Env}
+use Rattle.rules.specs.Meant.{ofStmts, ofFunction, ofFunctions, accesses}
 use Rattle.rules.specs.Read.{second, third, fourth, fifth, placesFrom, placesIn, fieldAt, fieldsAt, functionAt, contractAt}
 use Rattle.rules.specs.Joined.{whole}
 use Rattle.bounds.specs.Held.{Each, each-of-map}
@@ -21,6 +23,7 @@ use Rattle.bounds.specs.Sizes.{nodes-function, nodes-functions, vars-stm
 use Rattle.bounds.specs.Sound.{Run, no-more, one-more, none-left, stands}
 use Rattle.bounds.specs.Whole.{Reads, read-all, read-one, Complete, Whole-function}
 use Rattle.bounds.specs.Runs.{part-due, no-part, leaf, name-part, flag-part, of-kind, places-end, places-more, run-reads}
+use Rattle.bounds.specs.Sparse.{Sparse, sparse-none, sparse-in, sparse-then}
 use Rattle.bounds.specs.Stmts as stmts
 use Rattle.bounds.specs.Stmts.{body-part}
 
@@ -114,6 +117,7 @@ record Good-function (img : List ℕ) (p e : ℕ) (f : Function) : Type 0 where
   small : p + 6 * nodes-function f ≤ e
   whole : Whole-function img f
   names : length (f .params) + vars-stmts (f .body) ≤ 512
+  marks : (C : Contract) (ret : Typ) (Γ : Env) → Sparse img p e (ofStmts C ret (f .body) Γ)
 
 -- A sound Function record: Name, parameters, return type, Flag, body.
 function : (l : ℕ) → l ≤ 64 → (img : List ℕ) (at end i v q m : ℕ) → end ≤ length img → v ≤ 512 → recordOf l img at end due.Function i v ≡ Sound q m → Good-function img at (after img at) (functionAt img at)
@@ -138,6 +142,7 @@ function (suc l) g img at end i v q m h u e =
       small = omega (arith, n, w .payload, ax, bp .small, bi, cx, dx, sg .small, s .within);
       whole = record { params = bp .reads; result = cr; body = sc; stmts = sg .whole };
       names = omega (arith, n, t, bp .count, cy, dy, sg .count, z .1);
+      marks = λ C ret Γ. sparse-in (omega (arith, w .payload, ax, bp .small, bi, cx, dx)) (s .within) (sg .marks C ret Γ);
     }
 
 -- A List is read whole.
@@ -188,20 +193,26 @@ record Good-functions (img : List ℕ) (p e : ℕ) (fs : List Function) : Type 0
   small : p + 6 * nodes-functions fs ≤ e
   whole : Each (λ (f : Function). Whole-function img f) fs
   names : Each (λ (f : Function). length (f .params) + vars-stmts (f .body) ≤ 512) fs
+  marks : (C : Contract) → Sparse img p e (ofFunctions C fs)
 
 -- From the i-th on.
 functions-run : (fuel l : ℕ) → l ≤ 64 → (img : List ℕ) (end i p v m : ℕ) → end ≤ length img → v ≤ 512 → 256 ≤ fuel + i → Run l img end due.Functions 2 i p v m
     → Good-functions img p end (map (functionAt img) (placesFrom fuel img p end))
-unfolding pick classOf classes dueAt nodes-functions
+unfolding pick classOf classes dueAt nodes-functions ofFunction ofFunctions
 functions-run fuel l g img end i p v m h u b (no-more e n c) =
-    subst (λ ps. Good-functions img p end (map (functionAt img) ps)) (sym (places-end fuel img p end e)) (record { small = omega arith; whole = tt; names = tt })
+    subst (λ ps. Good-functions img p end (map (functionAt img) ps)) (sym (places-end fuel img p end e)) (record { small = omega arith; whole = tt; names = tt; marks = λ C. sparse-none img p end })
 functions-run zero zero g img end i p v m h u b (one-more n s z o e r) = none-left img p end _ i v (after img p) n e
 functions-run zero (suc l) g img end i p v m h u b (one-more n s z o e r) = absurd (let w = stands l img p end due.Function i v (after img p) n h e in omega (arith, w .room))
 functions-run (suc fuel) l g img end i p v m h u b (one-more n s z o e r) =
     let a = function l g img p end i v (after img p) n h u e in
     let t = functions-run fuel l g img end (i + 1) (after img p) n m h (bounded l img p end due.Function i v (after img p) n h u e) (omega arith) r in
     subst (λ ps. Good-functions img p end (map (functionAt img) ps)) (sym (places-more fuel img p end s))
-    (record { small = omega (arith, a .small, t .small); whole = (a .whole, t .whole); names = (a .names, t .names) })
+    (record {
+      small = omega (arith, a .small, t .small);
+      whole = (a .whole, t .whole);
+      names = (a .names, t .names);
+      marks = λ C. sparse-then (omega (arith, a .small)) (omega (arith, t .small)) (a .marks C _ _) (t .marks C);
+    })
 
 -- The List of functions.
 functions : (l : ℕ) → l ≤ 64 → (img : List ℕ) (at end i v q m : ℕ) → end ≤ length img → v ≤ 512 → recordOf l img at end due.Functions i v ≡ Sound q m
@@ -213,7 +224,7 @@ functions (suc l) g img at end i v q m h u e =
     let k : kindAt img at ≡ 2 = omega (arith, w .low, w .high) in
     let f : after img at ≤ length img = omega (arith, w .within) in
     let t = functions-run 256 l (omega arith) img (after img at) 0 (inside img at) v m f u (omega arith) (of-kind l img at end due.Functions i v m 2 k w) in
-    record { small = omega (arith, w .payload, t .small); whole = t .whole; names = t .names }
+    record { small = omega (arith, w .payload, t .small); whole = t .whole; names = t .names; marks = λ C. sparse-in (omega (arith, w .payload)) (omega arith) (t .marks C) }
 
 -- What the check of an image comes to.
 record Contract-good (img : List ℕ) : Type 0 where
@@ -244,7 +255,7 @@ contract img q m e =
       structs = list 63 64 img (third img 0) (after img 0) due.Structs 2 (b .counted) _ (c .counted) f refl refl (omega arith) (c .sound);
       fields = structs 63 img (third img 0) (after img 0) 2 (b .counted) _ (c .counted) f (c .sound);
       functions = list 63 256 img (fourth img 0) (after img 0) due.Functions 3 (c .counted) _ (d .counted) f refl refl (omega arith) (d .sound);
-      good = record { small = omega (arith, t .small, d .within, f); whole = t .whole; names = t .names };
+      good = record { small = omega (arith, t .small, d .within, f); whole = t .whole; names = t .names; marks = λ C. sparse-in (omega arith) (omega (arith, d .within, f)) (t .marks C) };
     }
 
 -- An image that passes the check is 65,536 bytes long at most, and no List of it is cut.
@@ -284,3 +295,8 @@ whole-at img q m e = each-of-map (λ (f : Function). Whole-function img f) (func
 -- Its functions have a record for six bytes at most.
 pub nodes-few : (img : List ℕ) (q m : ℕ) → checkOf img ≡ Sound q m → 6 * nodes-functions (contractAt img .functions) ≤ 65536
 nodes-few img q m e = let w = whole img q m e in let c = contract img q m (w .1) .good .small in omega (arith, w .0, c)
+
+-- 02: P2: its accesses stand six bytes apart or more.
+pub accesses-sparse : (img : List ℕ) (q m : ℕ) → checkOf img ≡ Sound q m → Sparse img 0 (length img) (accesses (contractAt img))
+unfolding accesses
+accesses-sparse img q m e = contract img q m (whole img q m e .1) .good .marks (contractAt img)

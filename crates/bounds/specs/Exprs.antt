@@ -1,4 +1,4 @@
--- Expressions of a checked image: read whole, in six bytes a record or more, with no name declared.
+-- Expressions of a checked image: read whole, in six bytes a record or more, with no name declared, their accesses apart.
 -- Assumes nothing.
 use mathlib.Core.Path.{_≡_, refl, sym, subst, ap}
 use mathlib.Core.Bool.{Bool}
@@ -8,15 +8,19 @@ use native.Mathlib.Omega.{arith}
 use borrow.Author.Tests.{lt-ltb, le-ltb}
 use lib.ListN.{length}
 use Rattle.rules.specs.declared.Seen.the-variants.{Sound}
-use Rattle.rules.specs.Bytes.{pick, kindAt, inside, after, _or_, _and_}
+use Rattle.rules.specs.Bytes.{pick, kindAt, inside, after, nameAt}
 use Rattle.rules.specs.Grammar as due
 use Rattle.rules.specs.Grammar.{classes, classOf, records, expressions, partsOf, partOf, dueAt}
 use Rattle.rules.specs.Check.{varsIn, startOf, recordOf}
-use Rattle.rules.specs.Tree.{Expr, Exprs, Inits}
+use Rattle.rules.specs.Tree.{Expr, Exprs, Inits, Contract}
+use Rattle.rules.specs.Types.{Env}
+use Rattle.rules.specs.Analyse as analysis
+use Rattle.rules.specs.Meant.{ofExpr, ofExprs, ofInits}
 use Rattle.rules.specs.Read.{when, second, third, nameIn, kindOf, exprsFrom, initsFrom, exprAs, exprAt}
 use Rattle.bounds.specs.Sizes.{nodes, nodes-exprs, nodes-inits}
 use Rattle.bounds.specs.Sound.{Run, no-more, one-more, Stands, none-left, stands}
 use Rattle.bounds.specs.Whole.{Complete, Whole, Whole-exprs, Whole-inits}
+use Rattle.bounds.specs.Sparse.{Sparse, sparse-none, sparse-in, sparse-then, sparse-access}
 use Rattle.bounds.specs.Runs.{Part, part-due, no-part, vars-grow, leaf, name-part, op-part, of-kind, run-reads}
 
 module _ (img : List ℕ) where
@@ -25,18 +29,21 @@ module _ (img : List ℕ) where
     pub small : p + 6 * nodes x ≤ e
     pub whole : Whole img x
     pub count : v ≤ m
+    pub marks : (C : Contract) (Γ : Env) → Sparse img p e (ofExpr C x Γ)
 
   -- Of several.
   pub record Goods (p e v m : ℕ) (xs : Exprs) : Type 0 where
     pub small : p + 6 * nodes-exprs xs ≤ e
     pub whole : Whole-exprs img xs
     pub count : v ≤ m
+    pub marks : (C : Contract) (Γ : Env) → Sparse img p e (ofExprs C xs Γ)
 
   -- Of Inits.
   pub record Good-inits (p e v m : ℕ) (is : Inits) : Type 0 where
     pub small : p + 6 * nodes-inits is ≤ e
     pub whole : Whole-inits img is
     pub count : v ≤ m
+    pub marks : (C : Contract) (Γ : Env) → Sparse img p e (ofInits C is Γ)
 
   -- With l levels left: an expression, a List of them, an Init, a List of those. The reader goes no less deep than the check.
   pub record Level (l : ℕ) : Type 0 where
@@ -76,28 +83,38 @@ inits-more k f img p e h =
 exprs-run : (fuel l : ℕ) (img : List ℕ) (D : ℕ) → l ≤ D → Level img l → (end d i p v m : ℕ) → end ≤ length img
     → classOf (classOf d .item) .low ≡ 64 → classOf (classOf d .item) .high ≡ 71 → classOf (classOf d .item) .most ≤ fuel + i
     → Run l img end d 2 i p v m → Goods img p end v m (exprsFrom fuel (exprAt D img) img p end)
-unfolding dueAt pick nodes-exprs Whole-exprs
+unfolding dueAt pick nodes-exprs Whole-exprs ofExprs
 exprs-run fuel l img D g L end d i p v m h lo hi b (no-more e n c) =
-    subst (Goods img p end v m) (sym (exprs-end fuel (exprAt D img) img p end e)) (record { small = omega arith; whole = tt; count = omega arith })
+    subst (Goods img p end v m) (sym (exprs-end fuel (exprAt D img) img p end e)) (record { small = omega arith; whole = tt; count = omega arith; marks = λ C Γ. sparse-none img p end })
 exprs-run zero zero img D g L end d i p v m h lo hi b (one-more n s z o e r) = none-left img p end _ i v (after img p) n e
 exprs-run zero (suc l) img D g L end d i p v m h lo hi b (one-more n s z o e r) = absurd (let w = stands l img p end _ i v (after img p) n h e in omega (arith, w .room))
 exprs-run (suc fuel) l img D g L end d i p v m h lo hi b (one-more n s z o e r) =
     let a = L .expr D g p end _ i v (after img p) n h lo hi e in
     let t = exprs-run fuel l img D g L end d (i + 1) (after img p) n m h lo hi (omega arith) r in
-    subst (Goods img p end v m) (sym (exprs-more fuel (exprAt D img) img p end s)) (record { small = omega (arith, a .small, t .small); whole = (a .whole, t .whole); count = omega (arith, a .count, t .count) })
+    subst (Goods img p end v m) (sym (exprs-more fuel (exprAt D img) img p end s)) (record {
+      small = omega (arith, a .small, t .small);
+      whole = (a .whole, t .whole);
+      count = omega (arith, a .count, t .count);
+      marks = λ C Γ. sparse-then (omega (arith, a .small)) (omega (arith, t .small)) (a .marks C Γ) (t .marks C Γ);
+    })
 
 -- The Inits of a List.
 inits-run : (fuel l : ℕ) (img : List ℕ) (D : ℕ) → l ≤ D → Level img l → (end i p v m : ℕ) → end ≤ length img → 64 ≤ fuel + i
     → Run l img end due.Inits 2 i p v m → Good-inits img p end v m (initsFrom fuel (exprAt D img) img p end)
-unfolding dueAt pick classOf classes nodes-inits Whole-inits
+unfolding dueAt pick classOf classes nodes-inits Whole-inits ofInits
 inits-run fuel l img D g L end i p v m h b (no-more e n c) =
-    subst (Good-inits img p end v m) (sym (inits-end fuel (exprAt D img) img p end e)) (record { small = omega arith; whole = tt; count = omega arith })
+    subst (Good-inits img p end v m) (sym (inits-end fuel (exprAt D img) img p end e)) (record { small = omega arith; whole = tt; count = omega arith; marks = λ C Γ. sparse-none img p end })
 inits-run zero zero img D g L end i p v m h b (one-more n s z o e r) = none-left img p end _ i v (after img p) n e
 inits-run zero (suc l) img D g L end i p v m h b (one-more n s z o e r) = absurd (let w = stands l img p end _ i v (after img p) n h e in omega (arith, w .room))
 inits-run (suc fuel) l img D g L end i p v m h b (one-more n s z o e r) =
     let a = L .init D g p end i v (after img p) n h e in
     let t = inits-run fuel l img D g L end (i + 1) (after img p) n m h (omega arith) r in
-    subst (Good-inits img p end v m) (sym (inits-more fuel (exprAt D img) img p end s)) (record { small = omega (arith, a .small, t .small); whole = (a .whole, t .whole); count = omega (arith, a .count, t .count) })
+    subst (Good-inits img p end v m) (sym (inits-more fuel (exprAt D img) img p end s)) (record {
+      small = omega (arith, a .small, t .small);
+      whole = (a .whole, t .whole);
+      count = omega (arith, a .count, t .count);
+      marks = λ C Γ. sparse-then (omega (arith, a .small)) (omega (arith, t .small)) (a .marks C Γ) (t .marks C Γ);
+    })
 
 -- 01: kinds 64 to 71.
 data Eight : ℕ → Type 0 where
@@ -139,7 +156,7 @@ module _ (l : ℕ) (img : List ℕ) (L : Level img l) where
       let f : after img at ≤ length img = omega (arith, w .within) in
       let t = exprs-run B l img D (omega arith) L (after img at) d 0 (inside img at) (varsIn d 2 v) m f ilo ihi (omega arith) r in (
         run-reads B l img (after img at) d 0 (inside img at) (varsIn d 2 v) m f (omega arith) r,
-        record { small = omega (arith, t .small, w .payload); whole = t .whole; count = omega (arith, t .count, vars-grow d 2 v refl) },
+        record { small = omega (arith, t .small, w .payload); whole = t .whole; count = omega (arith, t .count, vars-grow d 2 v refl); marks = λ C Γ. sparse-in (omega (arith, w .payload)) (omega arith) (t .marks C Γ) },
       )
 
   -- A List of Inits.
@@ -153,7 +170,7 @@ module _ (l : ℕ) (img : List ℕ) (L : Level img l) where
       let f : after img at ≤ length img = omega (arith, w .within) in
       let t = inits-run 64 l img D (omega arith) L (after img at) 0 (inside img at) (varsIn due.Inits 2 v) m f (omega arith) r in (
         run-reads 64 l img (after img at) due.Inits 0 (inside img at) (varsIn due.Inits 2 v) m f (omega arith) r,
-        record { small = omega (arith, t .small, w .payload); whole = t .whole; count = omega (arith, t .count, vars-grow due.Inits 2 v refl) },
+        record { small = omega (arith, t .small, w .payload); whole = t .whole; count = omega (arith, t .count, vars-grow due.Inits 2 v refl); marks = λ C Γ. sparse-in (omega (arith, w .payload)) (omega arith) (t .marks C Γ) },
       )
 
   -- An Init: a Name and an expression.
@@ -169,7 +186,7 @@ module _ (l : ℕ) (img : List ℕ) (L : Level img l) where
       let b = part-due l img (after img at) due.Init 20 1 (second img at) (a .counted) m refl (a .next) in
       let y = L .expr D (omega arith) (second img at) (after img at) due.Expression 1 (a .counted) _ (b .counted) f refl refl (b .sound) in
       let z = no-part l img (after img at) due.Init 20 2 _ (b .counted) m refl (b .next) in
-      record { small = omega (arith, w .payload, x .0, y .small, b .within); whole = y .whole; count = omega (arith, x .1, y .count, z .1, vars-grow due.Init 20 v refl) }
+      record { small = omega (arith, w .payload, x .0, y .small, b .within); whole = y .whole; count = omega (arith, x .1, y .count, z .1, vars-grow due.Init 20 v refl); marks = λ C Γ. sparse-in (omega (arith, w .payload, x .0)) (b .within) (y .marks C Γ) }
 
   -- An expression as a part, and what stands behind it.
   pub expr-part : (D : ℕ) → l ≤ D → (end d k j p n m : ℕ) → end ≤ length img → dueAt d k j ≡ due.Expression → Run l img end d k j p n m
@@ -182,37 +199,43 @@ module _ (l : ℕ) (img : List ℕ) (L : Level img l) where
   -- An expression, by its kind.
   module _ (D : ℕ) (g : l ≤ D) (at end d i v m : ℕ) (h : end ≤ length img) (w : Stands l img at end d i v m) where
     by-kind : (k : ℕ) → kindAt img at ≡ k → Eight k → Good img at (after img at) v m (exprAs (kindOf k) (exprAt D img) img at)
-    unfolding kindOf exprAs pick startOf classOf classes dueAt partOf partsOf expressions nodes Whole
+    unfolding kindOf exprAs pick startOf classOf classes dueAt partOf partsOf expressions nodes Whole ofExpr
     by-kind k e eInt =
         let r = of-kind l img at end d i v m 64 e w in
         let z = no-part l img (after img at) d 64 0 (after img at) (varsIn d 64 v) m refl r in
-        record { small = omega (arith, w .own); whole = tt; count = omega (arith, z .1, vars-grow d 64 v refl) }
+        record { small = omega (arith, w .own); whole = tt; count = omega (arith, z .1, vars-grow d 64 v refl); marks = λ C Γ. sparse-none img at (after img at) }
     by-kind k e eIdent =
         let f : after img at ≤ length img = omega (arith, w .within) in
         let r = of-kind l img at end d i v m 65 e w in
         let (a, x, y) = name-part l img (after img at) d 65 0 (inside img at) (varsIn d 65 v) m f refl r in
         let z = no-part l img (after img at) d 65 1 (second img at) (a .counted) m refl (a .next) in
-        record { small = omega (arith, w .own); whole = tt; count = omega (arith, y, z .1, vars-grow d 65 v refl) }
+        record { small = omega (arith, w .own); whole = tt; count = omega (arith, y, z .1, vars-grow d 65 v refl); marks = λ C Γ. sparse-none img at (after img at) }
     by-kind k e eStorage =
         let f : after img at ≤ length img = omega (arith, w .within) in
         let r = of-kind l img at end d i v m 66 e w in
         let (a, x, y) = name-part l img (after img at) d 66 0 (inside img at) (varsIn d 66 v) m f refl r in
         let z = no-part l img (after img at) d 66 1 (second img at) (a .counted) m refl (a .next) in
-        record { small = omega (arith, w .own); whole = tt; count = omega (arith, y, z .1, vars-grow d 66 v refl) }
+        record { small = omega (arith, w .own); whole = tt; count = omega (arith, y, z .1, vars-grow d 66 v refl); marks = λ C Γ. sparse-none img at (after img at) }
     by-kind k e eMapping =
         let f : after img at ≤ length img = omega (arith, w .within) in
         let r = of-kind l img at end d i v m 67 e w in
         let (a, x, y) = name-part l img (after img at) d 67 0 (inside img at) (varsIn d 67 v) m f refl r in
         let (b, t) = expr-part D g (after img at) d 67 1 (second img at) (a .counted) m f refl (a .next) in
         let z = no-part l img (after img at) d 67 2 (third img at) (b .counted) m refl (b .next) in
-        record { small = omega (arith, w .payload, x, t .small, b .within); whole = t .whole; count = omega (arith, y, t .count, z .1, vars-grow d 67 v refl) }
+        record { small = omega (arith, w .payload, x, t .small, b .within); whole = t .whole; count = omega (arith, y, t .count, z .1, vars-grow d 67 v refl); marks = λ C Γ. sparse-in (omega (arith, w .payload, x)) (b .within) (t .marks C Γ) }
     by-kind k e eAccess =
         let f : after img at ≤ length img = omega (arith, w .within) in
         let r = of-kind l img at end d i v m 68 e w in
         let (b, t) = expr-part D g (after img at) d 68 0 (inside img at) (varsIn d 68 v) m f refl r in
         let (a, x, y) = name-part l img (after img at) d 68 1 (second img at) (b .counted) m f refl (b .next) in
         let z = no-part l img (after img at) d 68 2 (third img at) (a .counted) m refl (a .next) in
-        record { small = omega (arith, w .payload, t .small, b .within); whole = t .whole; count = omega (arith, y, t .count, z .1, vars-grow d 68 v refl) }
+        record {
+          small = omega (arith, w .payload, t .small, b .within);
+          whole = t .whole;
+          count = omega (arith, y, t .count, z .1, vars-grow d 68 v refl);
+          marks = λ C Γ. sparse-access img at (after img at) (ofExpr C (exprAt D img (inside img at)) Γ) (analysis.expr C (exprAt D img (inside img at)) Γ) (λ t. analysis.access C at t (nameAt img (second img at)))
+              (λ t. t) (w .own) (sparse-in (omega (arith, w .payload)) (b .within) (t .marks C Γ));
+        }
     by-kind k e eLiteral =
         let f : after img at ≤ length img = omega (arith, w .within) in
         let r = of-kind l img at end d i v m 69 e w in
@@ -220,7 +243,7 @@ module _ (l : ℕ) (img : List ℕ) (L : Level img l) where
         let b = part-due l img (after img at) d 69 1 (second img at) (a .counted) m refl (a .next) in
         let (c, t) = L .inits D g (second img at) (after img at) 1 (a .counted) _ (b .counted) f (b .sound) in
         let z = no-part l img (after img at) d 69 2 (third img at) (b .counted) m refl (b .next) in
-        record { small = omega (arith, w .payload, x, t .small, b .within); whole = (c, t .whole); count = omega (arith, y, t .count, z .1, vars-grow d 69 v refl) }
+        record { small = omega (arith, w .payload, x, t .small, b .within); whole = (c, t .whole); count = omega (arith, y, t .count, z .1, vars-grow d 69 v refl); marks = λ C Γ. sparse-in (omega (arith, w .payload, x)) (b .within) (t .marks C Γ) }
     by-kind k e eBinary =
         let f : after img at ≤ length img = omega (arith, w .within) in
         let r = of-kind l img at end d i v m 70 e w in
@@ -228,7 +251,13 @@ module _ (l : ℕ) (img : List ℕ) (L : Level img l) where
         let (b, x, y) = op-part l img (after img at) d 70 1 (second img at) (a .counted) m f refl (a .next) in
         let (c, u) = expr-part D g (after img at) d 70 2 (third img at) (b .counted) m f refl (b .next) in
         let z = no-part l img (after img at) d 70 3 (after img (third img at)) (c .counted) m refl (c .next) in
-        record { small = omega (arith, w .payload, t .small, x, u .small, c .within); whole = (t .whole, u .whole); count = omega (arith, t .count, y, u .count, z .1, vars-grow d 70 v refl) }
+        record {
+          small = omega (arith, w .payload, t .small, x, u .small, c .within);
+          whole = (t .whole, u .whole);
+          count = omega (arith, t .count, y, u .count, z .1, vars-grow d 70 v refl);
+          marks = λ C Γ. sparse-then {q = second img at} (omega (arith, w .payload, t .small)) (omega (arith, x, u .small, c .within))
+              (sparse-in {d = second img at} (omega (arith, w .payload)) (omega arith) (t .marks C Γ)) (sparse-in (omega (arith, x)) (c .within) (u .marks C Γ));
+        }
     by-kind k e eCall =
         let f : after img at ≤ length img = omega (arith, w .within) in
         let r = of-kind l img at end d i v m 71 e w in
@@ -236,7 +265,7 @@ module _ (l : ℕ) (img : List ℕ) (L : Level img l) where
         let b = part-due l img (after img at) d 71 1 (second img at) (a .counted) m refl (a .next) in
         let (c, t) = L .exprs D g 64 (second img at) (after img at) due.Arguments 1 (a .counted) _ (b .counted) f refl refl refl refl (omega arith) (b .sound) in
         let z = no-part l img (after img at) d 71 2 (third img at) (b .counted) m refl (b .next) in
-        record { small = omega (arith, w .payload, x, t .small, b .within); whole = (c, t .whole); count = omega (arith, y, t .count, z .1, vars-grow d 71 v refl) }
+        record { small = omega (arith, w .payload, x, t .small, b .within); whole = (c, t .whole); count = omega (arith, y, t .count, z .1, vars-grow d 71 v refl); marks = λ C Γ. sparse-in (omega (arith, w .payload, x)) (b .within) (t .marks C Γ) }
 
   expr-step : (D : ℕ) → suc l ≤ D → (at end d i v q m : ℕ) → end ≤ length img → classOf d .low ≡ 64 → classOf d .high ≡ 71
       → recordOf (suc l) img at end d i v ≡ Sound q m → Good img at (after img at) v m (exprAt D img at)

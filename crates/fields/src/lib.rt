@@ -1,12 +1,14 @@
 // Where a field stands in the structs of a contract. A later struct replaces an earlier one of its name (000: struct_layouts).
 ghost use mathlib.Core.Path.{_≡_};
-ghost use Prim.Native.Nat.{ℕ, _<_};
+ghost use Prim.Native.Nat.{_<_};
 ghost use lib.ListN.{length, getD};
 ghost use Rattle.rules.specs.Bytes.{nameAt, inside};
-ghost use Rattle.rules.specs.Read.{contractAt};
+ghost use Rattle.rules.specs.Read.{second, contractAt};
 ghost use Rattle.rules.specs.Layout.{offset};
 ghost use Rattle.tables.specs.Listed.{Tabled, structsIn};
-ghost use Rattle.fields.specs.Spots.{Position, Newest, Placed};
+ghost use Rattle.notes.specs.Notes.{Known};
+ghost use Rattle.fields.specs.Spots.{Position, Newest, Placed, searched};
+use notes::Note;
 use tables::Found;
 
 // The position of a field in its struct.
@@ -62,10 +64,11 @@ pub fn position_at(img: &[u8], tables: &[usize], i: usize, x: &[u8]) -> Spot
     }
 }
 
-// 000: generate_expr, FieldAccess: the offset of the field at x, by the first struct that has it. Its name is read once.
-pub fn field_offset(img: &[u8], tables: &[usize], x: usize) -> u64
+// 000: generate_expr, FieldAccess: the offset of the field at x, by the first struct that has it, for a base of no declared struct type
+// (02: P2). Its name is read once.
+fn field_offset(img: &[u8], tables: &[usize], x: usize) -> u64
     requires { ⌜ Tabled (now img) (now tables) ⌝ }
-    ensures { λ r. ⌜ ((p : ℕ) → r ≡ offset (contractAt (now (img .entry))) p (nameAt (now (img .entry)) x)) ⌝ }
+    ensures { λ r. ⌜ r ≡ searched (contractAt (now (img .entry))) (nameAt (now (img .entry)) x) ⌝ }
 {
     let name = records::name(img, x);
     let n = tables::struct_count(tables);
@@ -82,4 +85,22 @@ pub fn field_offset(img: &[u8], tables: &[usize], x: usize) -> u64
         }
     }
     0
+}
+
+// 02: P2: the offset of the field at x of the access at `at`: by the struct that its base is of, if that is noted.
+pub fn offset_at(
+    img: &[u8],
+    tables: &[usize],
+    notes: &[u8; notes::SIZE],
+    at: usize,
+    x: usize,
+) -> u64
+    requires { ⌜ Known (now img) (now tables) (now notes) × (x ≡ second (now img) at) ⌝ }
+    ensures { λ r. ⌜ r ≡ offset (contractAt (now (img .entry))) at (nameAt (now (img .entry)) x) ⌝ }
+{
+    let n = notes::get(notes, at);
+    match n {
+        Note::At(k) => (k as u64) * 8,
+        Note::Nothing => field_offset(img, tables, x),
+    }
 }

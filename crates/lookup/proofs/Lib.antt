@@ -4,3 +4,4 @@ pub mod Searches
 pub mod Scopes
 pub mod Signs
 pub mod Fits
+pub mod Spots

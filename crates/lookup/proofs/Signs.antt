@@ -31,7 +31,7 @@ last-map f n m e x (p ∷ ps) = rw (last-map f n m e x ps, e p) (or-map f (last 
     or-map f none false p = refl
 
 module _ (img : List ℕ) where
-  field-name : (p : ℕ) → fieldName (fieldAt img p) ≡ nameIn img p
+  pub field-name : (p : ℕ) → fieldName (fieldAt img p) ≡ nameIn img p
   unfolding fieldAt
   field-name p = refl
 

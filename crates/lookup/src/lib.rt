@@ -2,20 +2,21 @@
 use tables::Found;
 ghost use mathlib.Core.Path.{_≡_};
 ghost use mathlib.Core.List.{List};
-ghost use mathlib.Core.Option.{some, none};
 ghost use Prim.Native.Nat.{ℕ, _≤_, _+_};
+ghost use lib.Dec.{eqb};
 ghost use lib.ListN.{length, getD, drop};
 ghost use Rattle.rules.specs.Bytes.{pick, nameAt, inside, after};
-ghost use Rattle.rules.specs.Tables.{orElse, last, nth, mapped};
+ghost use Rattle.rules.specs.Tables.{last, nth, mapped};
 ghost use Rattle.rules.specs.Tree.{Expr};
-ghost use Rattle.rules.specs.Read.{placesFrom, nameIn, structAt, contractAt, functionAt};
-ghost use Rattle.rules.specs.Types.{typeNamed, tagOf, nameOf, eqTyp, clash, initClash, find};
+ghost use Rattle.rules.specs.Read.{nameIn, structAt, contractAt, functionAt};
+ghost use Rattle.rules.specs.Types.{Typ, typeNamed, tagOf, nameOf, eqTyp, clash, initClash, find};
 ghost use Rattle.rules.specs.Refusal.{Refusal, unless};
 ghost use Rattle.rules.specs.Builtins.{builtin, arity};
-ghost use Rattle.rules.specs.Analyse.{retType, paramsOf, fieldType, fieldOf, initFits, fitted, applied, structNamed, signature, access, expr, clashes};
+ghost use Rattle.rules.specs.Analyse.{retType, paramsOf, fieldType, initFits, fitted, applied, signature, expr, clashes};
 ghost use Rattle.tables.specs.Listed.{Tabled};
 ghost use Rattle.lookup.specs.Answers.{tyOf, whereOf, gotOf, sigAt, typOf, envOf, retOf, dueOf, typedOf, checkedOf, misfitOf, noted};
 ghost use Rattle.lookup.specs.Scope.{Pushed};
+ghost use Rattle.lookup.specs.Fields.{Spotted, Accessed};
 
 // 001: Type. A struct's type has the place of its name.
 pub enum Ty {
@@ -29,6 +30,12 @@ pub enum Ty {
 
 pub enum Where {
     At(usize),
+    Nowhere,
+}
+
+// A field of a struct: its first position, and the place of its last Field.
+enum Spot {
+    At(usize, usize),
     Nowhere,
 }
 
@@ -182,31 +189,6 @@ fn init_clashing(img: &[u8], a: Ty, b: Ty) -> bool
     true
 }
 
-// The record at p where its name is the one sought, else the one found before.
-fn newer(here: bool, p: usize, before: Where) -> Where
-    ensures { λ r. ⌜ whereOf r ≡ orElse (pick here (some p) none) (whereOf before) ⌝ }
-{
-    if here { Where::At(p) } else { before }
-}
-
-// Of the records from at to end, left at most, the last that starts with the name at x.
-fn last_named(img: &[u8], at: usize, end: usize, left: usize, x: usize) -> Where
-    ensures { λ r. ⌜ whereOf r ≡ last (nameIn (now (img .entry))) (nameAt (now (img .entry)) x) (placesFrom left (now (img .entry)) at end) ⌝ }
-{
-    let mut p = at;
-    let mut k = left;
-    let mut best = Where::Nowhere;
-    while k != 0 {
-        if end <= p {
-            return best;
-        }
-        best = newer(records::same_name(img, records::body(img, p), x), p, best);
-        p = records::past(img, p);
-        k -= 1;
-    }
-    best
-}
-
 fn cell(a: &[usize], i: usize) -> usize
     ensures { λ r. ⌜ r ≡ getD (now (a .entry)) i 0 ⌝ }
 {
@@ -258,16 +240,10 @@ fn field_type(img: &[u8], s: usize, x: usize) -> Got
     ensures { λ r. ⌜ gotOf (now (img .entry)) r ≡ fieldType (nameAt (now (img .entry)) x) (structAt (now (img .entry)) s) ⌝ }
 {
     let list = records::past(img, records::body(img, s));
-    let f = last_named(
-        img,
-        records::body(img, list),
-        records::past(img, list),
-        64,
-        x,
-    );
+    let f = field_spot(img, list, records::name(img, x));
     match f {
-        Where::At(p) => Got::Type(declared(img, p)),
-        Where::Nowhere => Got::Missing,
+        Spot::At(_, p) => Got::Type(declared(img, p)),
+        Spot::Nowhere => Got::Missing,
     }
 }
 
@@ -444,32 +420,98 @@ pub fn analyze_ident(img: &[u8], at: usize, env: &[usize], top: usize) -> Typed
     }
 }
 
+// The first position where a field is found, 64 if nowhere yet: it is sought at n, or was found before.
+fn first_of(first: usize, is: bool, n: usize) -> usize
+    ensures { λ r. ⌜ r ≡ pick is (pick (eqb first 64) n first) first ⌝ }
+{
+    if is {
+        if first == 64 {
+            return n;
+        }
+    }
+    first
+}
+
+// The last place.
+fn last_of(last: usize, is: bool, p: usize) -> usize
+    ensures { λ r. ⌜ r ≡ pick is p last ⌝ }
+{
+    if is { p } else { last }
+}
+
+// The field x in the List of Fields at l: its type is the last one's (001), its position the first one's (000).
+fn field_spot(img: &[u8], l: usize, x: &[u8]) -> Spot
+    ensures { λ r. ⌜ Spotted (now (img .entry)) l (now (x .entry)) r ⌝ }
+{
+    let end = records::past(img, l);
+    let mut p = records::body(img, l);
+    let mut n = 0;
+    let mut first: usize = 64;
+    let mut last: usize = 0;
+    while n < 64 && p < end {
+        let is = records::is_name(img, records::body(img, p), x);
+        first = first_of(first, is, n);
+        last = last_of(last, is, p);
+        p = records::past(img, p);
+        n += 1;
+    }
+    if first == 64 {
+        Spot::Nowhere
+    } else {
+        Spot::At(first, last)
+    }
+}
+
 // A field, with the name at x, of the struct with the name at s.
-fn struct_field(img: &[u8], tables: &[usize], at: usize, s: usize, x: usize) -> Typed
+fn struct_field(
+    notes: &mut [u8; notes::SIZE],
+    img: &[u8],
+    tables: &[usize],
+    at: usize,
+    s: usize,
+    x: usize,
+) -> Typed
     requires { ⌜ Tabled (now img) (now tables) ⌝ }
-    ensures { λ r. ⌜ typedOf (now (img .entry)) r ≡ fieldOf at (nameAt (now (img .entry)) s) (nameAt (now (img .entry)) x) (structNamed (contractAt (now (img .entry))) (nameAt (now (img .entry)) s)) ⌝ }
+    ensures { λ r. ⌜ Accessed (now (img .entry)) (now (notes .entry)) (now (notes .exit)) at (Typ.struct (nameAt (now (img .entry)) s)) x r ⌝ }
 {
     let d = tables::struct_named(img, tables, s);
     match d {
         Found::At(_, p) => {
-            let g = field_type(img, p, x);
-            match g {
-                Got::Type(t) => Typed::Is(t),
-                Got::Missing => Typed::Refused(Fault::NoField(at, s, x)),
+            let list = records::past(img, records::body(img, p));
+            let f = field_spot(img, list, records::name(img, x));
+            match f {
+                Spot::At(n, q) => {
+                    notes::set(notes, at, n);
+                    Typed::Is(declared(img, q))
+                }
+                Spot::Nowhere => Typed::Refused(Fault::NoField(at, s, x)),
             }
         }
-        Found::Nothing => Typed::Is(Ty::Unknown),
+        Found::Nothing => {
+            notes::leave(notes);
+            Typed::Is(Ty::Unknown)
+        }
     }
 }
 
-// 001: analyze_expr, FieldAccess: a field, with the name at x, of a value of type t.
-pub fn field_of(img: &[u8], tables: &[usize], at: usize, t: Ty, x: usize) -> Typed
+// 001: analyze_expr, FieldAccess: a field, with the name at x, of a value of type t. What is found is noted (02: P2).
+pub fn field_of(
+    notes: &mut [u8; notes::SIZE],
+    img: &[u8],
+    tables: &[usize],
+    at: usize,
+    t: Ty,
+    x: usize,
+) -> Typed
     requires { ⌜ Tabled (now img) (now tables) ⌝ }
-    ensures { λ r. ⌜ typedOf (now (img .entry)) r ≡ access (contractAt (now (img .entry))) at (tyOf (now (img .entry)) t) (nameAt (now (img .entry)) x) ⌝ }
+    ensures { λ r. ⌜ Accessed (now (img .entry)) (now (notes .entry)) (now (notes .exit)) at (tyOf (now (img .entry)) t) x r ⌝ }
 {
     match t {
-        Ty::Struct(s) => struct_field(img, tables, at, s, x),
-        Ty::Unknown => Typed::Is(Ty::Unknown),
+        Ty::Struct(s) => struct_field(notes, img, tables, at, s, x),
+        Ty::Unknown => {
+            notes::leave(notes);
+            Typed::Is(Ty::Unknown)
+        }
         Ty::U64 => Typed::Refused(Fault::NotStruct(at)),
         Ty::Bool => Typed::Refused(Fault::NotStruct(at)),
         Ty::Field => Typed::Refused(Fault::NotStruct(at)),

@@ -3,7 +3,7 @@
 --     kept, looked, spot-at, spot-none      what was refused is handed on; else 30 is asked
 --     image-told, analysis-told, ambiguous-told, fine-told      the answer at the edge
 -- Assumes nothing.
-use mathlib.Core.Path.{_≡_, refl, sym, subst, _∙_}
+use mathlib.Core.Path.{_≡_, refl, sym, subst}
 use mathlib.Core.List.{List}
 use mathlib.Core.Option.{Option, none, some}
 use Prim.Native.Nat.{ℕ}
@@ -16,7 +16,10 @@ use Rattle.rules.specs.Refusal.{ok, bad, _>>=_, answer, refused}
 use Rattle.rules.specs.Analyse.{analyse}
 use Rattle.rules.specs.Ambiguous.{firstAmbiguous}
 use Rattle.rules.specs.Build.{passed, clear, analysed, judged, analysisAnswer}
+use Rattle.rules.specs.Meant.{accesses}
 use Rattle.tables.specs.Listed.{Tabled}
+use Rattle.notes.specs.Notes.{written, Blank}
+use Rattle.notes.specs.Left.{noted-all}
 use Rattle.ambiguous.specs.declared.Spot.{Spot}
 use Rattle.ambiguous.specs.declared.Spot.the-variants as spot
 use Rattle.ambiguous.specs.Spots.{spotOf}
@@ -27,21 +30,24 @@ use Rattle.sema.specs.declared.front.Judged.{Judged}
 use Rattle.sema.specs.declared.front.Judged.the-variants as is
 use Rattle.sema.specs.Entry.{Passed}
 use Rattle.sema.specs.Front.{judgedOf, spotted, Judges}
+use Rattle.sema.proofs.Functions.{sound-in}
 
-module _ (img t : List ℕ) where
-  pub faulted : {n p : ℕ} → checkOf img ≡ Fault n p → Judges img (analysed img) t (is.Image n p)
+module _ (img t N : List ℕ) where
+  pub faulted : {n p : ℕ} → checkOf img ≡ Fault n p → Judges img (analysed img) t N (is.Image n p)
   unfolding judgedOf analysed passed _>>=_
   faulted h = record { answers = rw h refl; ready = λ e. absurd (let z : _≡_ {A = ℕ} 0 1 = cc in omega arith) }
 
-  pub passed-fine : Passed img → Tabled img t → ok tt ≡ analyse (contractAt img) → Judges img (analysed img) t is.Fine
+  pub passed-fine : (N₀ : List ℕ) → Passed img → Blank N₀ → Tabled img t → ok tt ≡ analyse (contractAt img) → N ≡ written (contractAt img) N₀ (accesses (contractAt img)) → Judges img (analysed img) t N is.Fine
   unfolding judgedOf analysed _>>=_
-  passed-fine p l q = record { answers = rw (p, ← q) refl; ready = λ e. (l, p) }
+  passed-fine N₀ p z l q h =
+      let s = sound-in (checkOf img) p in
+      record { answers = rw (p, ← q) refl; ready = λ e. ((l, rw h (noted-all img (s .0) (s .1) (s .2) (sym q) N₀ z)), p) }
 
-  pub passed-unfit : Passed img → (f : code.Fault) → bad (faultOf img f) ≡ analyse (contractAt img) → Judges img (analysed img) t (is.Analysis f)
+  pub passed-unfit : Passed img → (f : code.Fault) → bad (faultOf img f) ≡ analyse (contractAt img) → Judges img (analysed img) t N (is.Analysis f)
   unfolding judgedOf analysed _>>=_
   passed-unfit p f q = record { answers = rw (p, ← q) refl; ready = λ e. absurd (let z : _≡_ {A = ℕ} 0 1 = cc in omega arith) }
 
-  pub kept : (r : Judged) → Judges img (analysed img) t r → (r ≡ is.Fine → ⊥) → Judges img (judged img) t r
+  pub kept : (r : Judged) → Judges img (analysed img) t N r → (r ≡ is.Fine → ⊥) → Judges img (judged img) t N r
   unfolding judgedOf judged
   kept (is.Image n p) j h = record { answers = then-bad _ (j .answers); ready = λ e. absurd (h e) }
   kept (is.Analysis f) j h = record { answers = then-bad _ (j .answers); ready = λ e. absurd (h e) }
@@ -54,11 +60,11 @@ module _ (img t : List ℕ) where
   row-30 none = refl
   row-30 (some p) = refl
 
-  pub looked : {r s : Judged} → Judges img (analysed img) t r → r ≡ is.Fine → s ≡ spotted (firstAmbiguous (contractAt img)) → Judges img (judged img) t s
+  pub looked : {r s : Judged} → Judges img (analysed img) t N r → r ≡ is.Fine → s ≡ spotted (firstAmbiguous (contractAt img)) → Judges img (judged img) t N s
   unfolding judged judgedOf
   looked {r} {s} j f e =
       let a : ok (contractAt img) ≡ analysed img = subst (λ (x : Judged). judgedOf img x ≡ analysed img) f (j .answers) in
-      subst (λ (x : Judged). Judges img (judged img) t x) (sym e) (record { answers = then-ok _ a (row-30 (firstAmbiguous (contractAt img))); ready = λ g. j .ready f })
+      subst (λ (x : Judged). Judges img (judged img) t N x) (sym e) (record { answers = then-ok _ a (row-30 (firstAmbiguous (contractAt img))); ready = λ g. j .ready f })
 
 -- where 30 is, or none
 module _ {o : Option ℕ} {s : Spot} where

@@ -9,19 +9,22 @@ use Rattle.rules.specs.declared.Seen.{Seen}
 use Rattle.rules.specs.declared.Seen.the-variants.{Sound, Fault}
 use Rattle.rules.specs.Check.{checkOf}
 use Rattle.rules.specs.Tree.{Function}
-use Rattle.rules.specs.Refusal.{Refusal, Res, ok, bad, _>>=_}
+use Rattle.rules.specs.Refusal.{Refusal, Res, ok, bad}
 use Rattle.rules.specs.Analyse.{function, functions, analyse}
 use Rattle.rules.specs.Read.{functionAt, contractAt}
+use Rattle.rules.specs.Meant.{Access, ofFunction, ofFunctions, accesses}
 use Rattle.rules.specs.Build.{passed}
 use Rattle.rules.specs.Joined.{whole}
 use Rattle.bounds.specs.Held.{each-of-map, each-get}
 use Rattle.bounds.specs.Contracts.{names-few}
 use Rattle.tables.specs.Listed.{functionsIn}
+use Rattle.notes.specs.Notes.{written}
+use Rattle.notes.specs.Left.{written-append}
 use Rattle.lookup.specs.Results.{then-ok, then-bad}
 use Rattle.sema.specs.Steps.{names}
 use Rattle.sema.specs.Entry.{Passed}
 
-sound-in : (s : Seen) → passed s ≡ ok tt → (q : ℕ) × (m : ℕ) × (s ≡ Sound q m)
+pub sound-in : (s : Seen) → passed s ≡ ok tt → (q : ℕ) × (m : ℕ) × (s ≡ Sound q m)
 unfolding passed
 sound-in (Sound q m) h = (q, m, refl)
 sound-in (Fault n p) h = absurd (let z : _≡_ {A = ℕ} 0 1 = cc in omega arith)
@@ -71,3 +74,21 @@ module _ (img : List ℕ) where
       pub from-bad : {r : Refusal} → bad r ≡ function (contractAt img) (functionAt img (getD (functionsIn img) i 0)) → bad r ≡ from img i
       unfolding functions
       from-bad h = rw (drop-get (functionsIn img) i l) (then-bad _ h)
+
+-- 02: P2: the accesses of the functions from index i on
+abbrev pub accessesFrom : List ℕ → ℕ → List Access
+accessesFrom img i = ofFunctions (contractAt img) (map (functionAt img) (drop i (functionsIn img)))
+
+module _ (img N : List ℕ) where
+  pub notes-start : written (contractAt img) N (accesses (contractAt img)) ≡ written (contractAt img) N (accessesFrom img 0)
+  unfolding accesses contractAt
+  notes-start = refl
+
+  pub notes-done : (i : ℕ) → length (functionsIn img) ≤ i → written (contractAt img) N (accessesFrom img i) ≡ N
+  unfolding ofFunctions written
+  notes-done i h = rw (drop-all (functionsIn img) i h)
+
+  pub notes-next : {N₁ : List ℕ} (i : ℕ) → i < length (functionsIn img) → N₁ ≡ written (contractAt img) N (ofFunction (contractAt img) (functionAt img (getD (functionsIn img) i 0)))
+      → written (contractAt img) N (accessesFrom img i) ≡ written (contractAt img) N₁ (accessesFrom img (i + 1))
+  unfolding ofFunctions
+  notes-next i l h = rw (drop-get (functionsIn img) i l, add-one, h) (written-append (contractAt img) N _ _)

@@ -7,7 +7,7 @@ use Prim.Native.Nat.{ℕ}
 use Rattle.rules.specs.Tree.{Contract}
 use Rattle.rules.specs.Read.{contractAt}
 use Rattle.rules.specs.Refusal.{Refusal, Res, ok, bad}
-use Rattle.tables.specs.Listed.{Tabled}
+use Rattle.notes.specs.Notes.{Known}
 use Rattle.lookup.specs.Answers.{faultOf}
 use Rattle.sema.specs.declared.front.Judged.{Judged}
 use Rattle.sema.specs.declared.front.Judged.the-variants as is
@@ -25,7 +25,7 @@ unfoldable pub spotted : Option ℕ → Judged
 spotted (some p) = is.Ambiguous p
 spotted none = is.Fine
 
--- As the definition's m says; of what is not refused the tables stand in t.
-pub record Judges (img : List ℕ) (m : Res Contract) (t : List ℕ) (r : Judged) : Type 0 where
+-- As the definition's m says; of what is not refused the tables stand in t and the notes in N.
+pub record Judges (img : List ℕ) (m : Res Contract) (t N : List ℕ) (r : Judged) : Type 0 where
   pub answers : judgedOf img r ≡ m
-  pub ready : r ≡ is.Fine → Tabled img t × Passed img
+  pub ready : r ≡ is.Fine → Known img t N × Passed img

@@ -1,4 +1,3 @@
-pub mod Arguments
 pub mod Steps
 pub mod Entry
 pub mod Front

@@ -1,7 +1,6 @@
 -- What the code of a statement is to do: from the names in scope that an array holds it reaches others, as the definition says.
---     exprOf, stmtOf, bodyOf, elseOf     what is read at a place
---     Gives                    the type of an expression
---     Stepped, Step, Steps     the array, the cells in use and the answer
+--     stmtOf, bodyOf, elseOf   what is read at a place
+--     Stepped, Step, Steps     the array, the cells in use, the answer and the notes
 --     Bound                    the parameters of a function
 -- Assumes nothing.
 use mathlib.Core.List.{List, map}
@@ -13,17 +12,15 @@ use Rattle.rules.specs.Tree.{Expr, Stmt, Stmts, Function, Contract}
 use Rattle.rules.specs.Types.{Typ, Env, with-name}
 use Rattle.rules.specs.Refusal.{Res, ok, bad, _>>=_}
 use Rattle.rules.specs.Analyse.{expr, stmt, stmts, with-params}
-use Rattle.rules.specs.Read.{Kind, StmtKind, exprAs, exprAt, stmtAs, stmtAt, bodyAt, elseAt, contractAt, fieldAt}
+use Rattle.rules.specs.Read.{StmtKind, exprAt, stmtAs, stmtAt, bodyAt, elseAt, contractAt, fieldAt}
 use Rattle.bounds.specs.Sizes.{vars, vars-stmts}
-use Rattle.lookup.specs.declared.Typed.{Typed}
-use Rattle.lookup.specs.Answers.{faultOf, envOf, typedOf}
+use Rattle.lookup.specs.Answers.{faultOf, envOf}
+use Rattle.rules.specs.Meant.{Access, ofStmt, ofStmts}
+use Rattle.notes.specs.Notes.{Wrote}
 use Rattle.sema.specs.declared.After.{After}
 use Rattle.sema.specs.declared.After.the-variants as after
 
 -- the record at i taken as one of a kind, d records deep at most below it
-abbrev pub exprOf : Kind → ℕ → List ℕ → ℕ → Expr
-exprOf K d img i = exprAs K (exprAt d img) img i
-
 abbrev pub stmtOf : StmtKind → ℕ → List ℕ → ℕ → Stmt
 stmtOf K d img i = stmtAs K (exprAt d img) (stmtAt d img) img i
 
@@ -34,10 +31,6 @@ bodyOf d img l = bodyAt (stmtAt d img) img l
 abbrev pub elseOf : ℕ → List ℕ → ℕ → ℕ → Stmts
 elseOf d img l e = elseAt (stmtAt d img) img l e
 
--- the type of an expression, or its first refusal, with the names that the array e holds up to top
-abbrev pub Gives : (img e : List ℕ) (top : ℕ) → Typed → Expr → Type 0
-Gives img e top r x = typedOf img r ≡ expr (contractAt img) x (envOf img e top)
-
 unfoldable pub afterOf : List ℕ → List ℕ → After → Res Env
 afterOf img e (after.Top k) = ok (envOf img e k)
 afterOf img e (after.Refused f) = bad (faultOf img f)
@@ -46,18 +39,20 @@ unfoldable pub Within : ℕ → ℕ → After → Type 0
 Within a b (after.Top k) = (a ≤ k) × (k ≤ b)
 Within a b (after.Refused f) = Unit {0}
 
--- the array e, in use up to top, becomes e': below top it is as it was, and at most 2 times m cells more are in use
-pub record Stepped (img e e' : List ℕ) (top m : ℕ) (r : After) (o : Res Env) : Type 0 where
+-- the array e, in use up to top, becomes e': below top it is as it was, and at most 2 times m cells more are in use; the notes N become N', with
+-- those of the accesses l, if there is no refusal (02: P2)
+pub record Stepped (img e e' N N' : List ℕ) (top m : ℕ) (r : After) (o : Res Env) (l : List Access) : Type 0 where
   pub answer : afterOf img e' r ≡ o
   pub within : Within top (top + 2 * m) r
   pub kept : (i : ℕ) → i < top → getD e' i 0 ≡ getD e i 0
   pub size : length e' ≡ length e
+  pub notes : Wrote (contractAt img) N N' l (afterOf img e' r)
 
-abbrev pub Step : (img e e' : List ℕ) (top : ℕ) (r : After) (R : Typ) → Stmt → Type 0
-Step img e e' top r R s = Stepped img e e' top (vars s) r (stmt (contractAt img) R s (envOf img e top))
+abbrev pub Step : (img e e' N N' : List ℕ) (top : ℕ) (r : After) (R : Typ) → Stmt → Type 0
+Step img e e' N N' top r R s = Stepped img e e' N N' top (vars s) r (stmt (contractAt img) R s (envOf img e top)) (ofStmt (contractAt img) R s (envOf img e top))
 
-abbrev pub Steps : (img e e' : List ℕ) (top : ℕ) (r : After) (R : Typ) → Stmts → Type 0
-Steps img e e' top r R ss = Stepped img e e' top (vars-stmts ss) r (stmts (contractAt img) R ss (envOf img e top))
+abbrev pub Steps : (img e e' N N' : List ℕ) (top : ℕ) (r : After) (R : Typ) → Stmts → Type 0
+Steps img e e' N N' top r R ss = Stepped img e e' N N' top (vars-stmts ss) r (stmts (contractAt img) R ss (envOf img e top)) (ofStmts (contractAt img) R ss (envOf img e top))
 
 -- an expression alone
 unfoldable pub only : Contract → Expr → Env → Res Env

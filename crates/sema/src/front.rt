@@ -4,9 +4,9 @@ ghost use mathlib.Core.Path.{_≡_};
 ghost use mathlib.Core.List.{List};
 ghost use Prim.Native.Nat.{ℕ};
 ghost use Rattle.rules.specs.Ambiguous.{firstAmbiguous};
-ghost use Rattle.rules.specs.Build.{analysed, judged, clear, analysisAnswer};
+ghost use Rattle.rules.specs.Build.{analysed, judged, analysisAnswer};
 ghost use Rattle.rules.specs.Read.{contractAt};
-ghost use Rattle.tables.specs.Listed.{Tabled};
+ghost use Rattle.notes.specs.Notes.{Known, Blank};
 ghost use Rattle.sema.specs.Entry.{Passed};
 ghost use Rattle.sema.specs.Front.{judgedOf, spotted, Judges};
 use ambiguous::Spot;
@@ -27,13 +27,14 @@ pub enum Judged {
 fn behind_check(
     tables: &mut [usize; tables::SIZE],
     names: &mut [usize; records::NAMES],
+    notes: &mut [u8; notes::SIZE],
     image: &[u8],
 ) -> Judged
-    requires { ⌜ Passed (now image) ⌝ }
-    ensures { λ r. ⌜ Judges (now (image .entry)) (analysed (now (image .entry))) (now (tables .exit)) r ⌝ }
+    requires { ⌜ Passed (now image) × Blank (now notes) ⌝ }
+    ensures { λ r. ⌜ Judges (now (image .entry)) (analysed (now (image .entry))) (now (tables .exit)) (now (notes .exit)) r ⌝ }
 {
     tables::fill_tables(tables, image);
-    match crate::analyse_checked(names, image, tables) {
+    match crate::analyse_checked(names, notes, image, tables) {
         Checked::Fine => Judged::Fine,
         Checked::Refused(f) => Judged::Analysis(f),
     }
@@ -43,22 +44,29 @@ fn behind_check(
 pub(crate) fn analysis(
     tables: &mut [usize; tables::SIZE],
     names: &mut [usize; records::NAMES],
+    notes: &mut [u8; notes::SIZE],
     image: &[u8],
 ) -> Judged
-    ensures { λ r. ⌜ Judges (now (image .entry)) (analysed (now (image .entry))) (now (tables .exit)) r ⌝ }
+    requires { ⌜ Blank (now notes) ⌝ }
+    ensures { λ r. ⌜ Judges (now (image .entry)) (analysed (now (image .entry))) (now (tables .exit)) (now (notes .exit)) r ⌝ }
 {
     match image::check(image) {
         Seen::Fault(number, place) => Judged::Image(number, place),
-        Seen::Sound(_, _) => behind_check(tables, names, image),
+        Seen::Sound(_, _) => behind_check(tables, names, notes, image),
     }
 }
 
 // 01: row 30. The analysis is over, so that its names serve once more as a table of fields.
-fn ambiguity(names: &mut [usize; records::NAMES], image: &[u8], tables: &[usize]) -> Judged
-    requires { ⌜ Tabled (now image) (now tables) ⌝ }
+fn ambiguity(
+    names: &mut [usize; records::NAMES],
+    image: &[u8],
+    tables: &[usize],
+    notes: &[u8; notes::SIZE],
+) -> Judged
+    requires { ⌜ Known (now image) (now tables) (now notes) ⌝ }
     ensures { λ r. ⌜ r ≡ spotted (firstAmbiguous (contractAt (now (image .entry)))) ⌝ }
 {
-    match ambiguous::first_ambiguous(names, image, tables) {
+    match ambiguous::first_ambiguous(names, image, tables, notes) {
         Spot::At(place) => Judged::Ambiguous(place),
         Spot::Nowhere => Judged::Fine,
     }
@@ -68,16 +76,18 @@ fn ambiguity(names: &mut [usize; records::NAMES], image: &[u8], tables: &[usize]
 pub fn judge(
     tables: &mut [usize; tables::SIZE],
     names: &mut [usize; records::NAMES],
+    notes: &mut [u8; notes::SIZE],
     image: &[u8],
 ) -> Judged
-    ensures { λ r. ⌜ Judges (now (image .entry)) (judged (now (image .entry))) (now (tables .exit)) r ⌝ }
+    requires { ⌜ Blank (now notes) ⌝ }
+    ensures { λ r. ⌜ Judges (now (image .entry)) (judged (now (image .entry))) (now (tables .exit)) (now (notes .exit)) r ⌝ }
 {
-    let j = analysis(tables, names, image);
+    let j = analysis(tables, names, notes, image);
     match j {
         Judged::Image(_, _) => j,
         Judged::Analysis(_) => j,
         Judged::Ambiguous(_) => j,
-        Judged::Fine => ambiguity(names, image, tables),
+        Judged::Fine => ambiguity(names, image, tables, notes),
     }
 }
 

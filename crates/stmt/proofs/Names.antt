@@ -105,11 +105,11 @@ module _ (img : List ℕ) {s t : List ℕ} {k : ℕ} (f : Frame s t k) (z : 0 < 
   pub back-frame : (j : ℕ) → Frame s (set t 0 (getD s 0 0)) j
   back-frame j = record { least = omega (arith, back-count); most = omega (arith, back-count); kept = back-kept }
 
-pub fewer : {img t s : List ℕ} {j k : ℕ} → Ready img t s k → j ≤ k → Ready img t s j
-fewer a h = record { tabled = a .tabled; names = omega (arith, a .names, h); size = a .size }
+pub fewer : {img t N s : List ℕ} {j k : ℕ} → Ready img t N s k → j ≤ k → Ready img t N s j
+fewer a h = record { known = a .known; names = omega (arith, a .names, h); size = a .size }
 
-pub behind : {img t s s' : List ℕ} {j k : ℕ} → Ready img t s (j + k) → Frame s s' k → length s' ≡ length s → Ready img t s' j
-behind a f e = record { tabled = a .tabled; names = omega (arith, a .names, f .most); size = omega (arith, a .size, e) }
+pub behind : {img t N s s' : List ℕ} {j k : ℕ} → Ready img t N s (j + k) → Frame s s' k → length s' ≡ length s → Ready img t N s' j
+behind a f e = record { known = a .known; names = omega (arith, a .names, f .most); size = omega (arith, a .size, e) }
 
-pub behind-one : {img t s s' : List ℕ} {k : ℕ} → Ready img t s (suc k) → Frame s s' 1 → length s' ≡ length s → Ready img t s' k
-behind-one a f e = record { tabled = a .tabled; names = omega (arith, a .names, f .most); size = omega (arith, a .size, e) }
+pub behind-one : {img t N s s' : List ℕ} {k : ℕ} → Ready img t N s (suc k) → Frame s s' 1 → length s' ≡ length s → Ready img t N s' k
+behind-one a f e = record { known = a .known; names = omega (arith, a .names, f .most); size = omega (arith, a .size, e) }

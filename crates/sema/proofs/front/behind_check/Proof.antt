@@ -10,10 +10,10 @@ use Rattle.sema.proofs.front.behind_check.Statement.{statement}
 use Rattle.sema.proofs.front.behind_check.Tie as tie
 
 fill-tables-requires : tie.Need-fill-tables-requires
-fill-tables-requires c κs = small _ (c .before .before .pre)
+fill-tables-requires c κs = small _ (c .before .before .pre .0)
 
 analyse-checked-requires : tie.Need-analyse-checked-requires
-analyse-checked-requires c κs = (c .before .before .before .fill-tables .ensures, (c .before .before .before .before .before .before .pre, omega arith))
+analyse-checked-requires c κs = (c .before .before .before .before .fill-tables .ensures, (c .before .before .before .before .before .before .before .pre .0, omega arith))
 
 enum-told : tie.Need-enum-told
 enum-told c = search needs
@@ -23,11 +23,11 @@ enum-known-f c = search needs
 
 returns : tie.Need-returns
 unfolding checkedOf
-returns c = passed-fine _ _ (c .before .before .before .before .before .before .before .before .before .pre) (c .before .before .before .before .before .before .fill-tables .ensures) (sym (ap (checkedOf _) (c .enum-told .given .1)) ∙ c .before .before .analyse-checked .ensures .0)
+returns c = passed-fine _ _ _ _ (c .before .before .before .before .before .before .before .before .before .before .pre .0) (c .before .before .before .before .before .before .before .before .before .before .pre .1) (c .before .before .before .before .before .before .before .fill-tables .ensures) (sym (ap (checkedOf _) (c .enum-told .given .1)) ∙ c .before .before .analyse-checked .ensures .0) (c .before .before .analyse-checked .ensures .1 .all _ (ap (checkedOf _) (c .enum-told .given .1)))
 
 returns-2 : tie.Need-returns-2
 unfolding checkedOf
-returns-2 c = passed-unfit _ _ (c .before .before .before .before .before .before .before .before .before .before .pre) _ (sym (ap (checkedOf _) (c .before .f .given .1)) ∙ c .before .before .before .analyse-checked .ensures .0)
+returns-2 c = passed-unfit _ _ _ (c .before .before .before .before .before .before .before .before .before .before .before .pre .0) _ (sym (ap (checkedOf _) (c .before .f .given .1)) ∙ c .before .before .before .analyse-checked .ensures .0)
 
 pub behind-check-spec : {M : Type 1} → statement M
 behind-check-spec =

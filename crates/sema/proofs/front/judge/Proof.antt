@@ -9,7 +9,7 @@ use Rattle.sema.proofs.front.judge.Statement.{statement}
 use Rattle.sema.proofs.front.judge.Tie as tie
 
 analysis-requires : tie.Need-analysis-requires
-analysis-requires c κs = search needs
+analysis-requires c κs = c .before .before .before .before .pre
 
 enum-told : tie.Need-enum-told
 enum-told c = search needs
@@ -24,19 +24,19 @@ enum-told-4 : tie.Need-enum-told-4
 enum-told-4 c = search needs
 
 ambiguity-requires : tie.Need-ambiguity-requires
-ambiguity-requires c κs = c .before .before .before .before .before .analysis .ensures .ready (c .before .before .before .enum-told4 .given .1) .0
+ambiguity-requires c κs = c .before .before .before .before .before .before .analysis .ensures .ready (c .before .before .before .before .enum-told4 .given .1) .0
 
 returns : tie.Need-returns
-returns c = kept _ _ _ (c .before .before .analysis .ensures) (λ e. let h = c .enum-told .given .1 in absurd (let z : _≡_ {A = ℕ} 0 1 = cc in omega arith))
+returns c = kept _ _ _ _ (c .before .before .analysis .ensures) (λ e. let h = c .enum-told .given .1 in absurd (let z : _≡_ {A = ℕ} 0 1 = cc in omega arith))
 
 returns-2 : tie.Need-returns-2
-returns-2 c = kept _ _ _ (c .before .before .analysis .ensures) (λ e. let h = c .enum-told2 .given .1 in absurd (let z : _≡_ {A = ℕ} 0 1 = cc in omega arith))
+returns-2 c = kept _ _ _ _ (c .before .before .analysis .ensures) (λ e. let h = c .enum-told2 .given .1 in absurd (let z : _≡_ {A = ℕ} 0 1 = cc in omega arith))
 
 returns-3 : tie.Need-returns-3
-returns-3 c = kept _ _ _ (c .before .before .analysis .ensures) (λ e. let h = c .enum-told3 .given .1 in absurd (let z : _≡_ {A = ℕ} 0 1 = cc in omega arith))
+returns-3 c = kept _ _ _ _ (c .before .before .analysis .ensures) (λ e. let h = c .enum-told3 .given .1 in absurd (let z : _≡_ {A = ℕ} 0 1 = cc in omega arith))
 
 returns-4 : tie.Need-returns-4
-returns-4 c = looked _ _ (c .before .before .before .before .before .before .analysis .ensures) (c .before .before .before .before .enum-told4 .given .1) (c .ambiguity .ensures)
+returns-4 c = looked _ _ _ (c .before .before .before .before .before .before .before .analysis .ensures) (c .before .before .before .before .before .enum-told4 .given .1) (c .ambiguity .ensures)
 
 pub judge-spec : {M : Type 1} → statement M
 judge-spec =

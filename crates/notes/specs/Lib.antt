@@ -1,0 +1,4 @@
+pub mod Notes
+pub mod Clear
+pub mod Left
+pub mod Wrote
