@@ -1,7 +1,8 @@
-//! The least stack, in KiB, on which the deepest trees of each kind are built. (`many` has more parameters than there are registers: the answer is 41.)
+//! The least stack, in KiB, on which the deepest trees of each kind are built, and on which their text is told. (`many` has more parameters
+//! than there are registers: the answer is 41.)
 //! Trees that end in a `lost` name are refused by analysis, so that theirs is the stack of analysis.
 use haspnettle::ast::{Contract, Expr, Stmt, Struct};
-use haspnettle::{ast, build_into, image, Unwritable};
+use haspnettle::{ast, build_into, image, text, Unwritable};
 use std::{env, process::Command, thread};
 use tree::*;
 
@@ -72,26 +73,38 @@ fn kinds() -> Vec<(&'static str, Contract)> {
     ]
 }
 
+// What one call says of an image.
+fn says(call: &str, img: &[u8]) -> String {
+    match call {
+        "build" => build_into(img, &mut vec![0; 8 * 65_536]).map_or_else(|r| r.to_string(), |n| format!("{n} words")),
+        _ => text(img).unwrap_or_default(),
+    }
+}
+
+// The least stack on which a call returns, each tried in a process of its own; and what it says.
+fn least(kind: &str, call: &str) -> (u32, String) {
+    let run = |kib: u32| Command::new(env::current_exe().unwrap()).args([kind, call, &kib.to_string()]).output().unwrap();
+    let (mut low, mut high) = (16, 1024);
+    while low < high {
+        let middle = (low + high) / 2;
+        match run(middle).status.success() {
+            true => high = middle,
+            false => low = middle + 1,
+        }
+    }
+    (high, String::from_utf8(run(high).stdout).unwrap())
+}
+
 fn main() {
-    if let [_, kind, kib] = &env::args().collect::<Vec<_>>()[..] {
-        let contract = kinds().into_iter().find(|k| k.0 == kind).unwrap().1;
-        let img = image(&contract).unwrap();
-        let mut out = vec![0; 8 * 65_536];
-        let run = move || build_into(&img, &mut out);
-        let answer = thread::Builder::new().stack_size(kib.parse::<usize>().unwrap() << 10).spawn(run).unwrap().join().unwrap();
-        println!("{}", answer.map_or_else(|r| r.to_string(), |n| format!("{n} words")));
+    if let [_, kind, call, kib] = &env::args().collect::<Vec<_>>()[..] {
+        let img = image(&kinds().into_iter().find(|k| k.0 == kind).unwrap().1).unwrap();
+        let call = call.clone();
+        let run = move || says(&call, &img);
+        print!("{}", thread::Builder::new().stack_size(kib.parse::<usize>().unwrap() << 10).spawn(run).unwrap().join().unwrap());
         return;
     }
     for (kind, _) in kinds() {
-        let fits = |kib: u32| Command::new(env::current_exe().unwrap()).args([kind, &kib.to_string()]).output().unwrap();
-        let (mut low, mut high) = (16, 1024);
-        while low < high {
-            let middle = (low + high) / 2;
-            match fits(middle).status.success() {
-                true => high = middle,
-                false => low = middle + 1,
-            }
-        }
-        println!("{kind:14} {high:4} KiB  {}", String::from_utf8_lossy(&fits(high).stdout).trim());
+        let ((build, answer), (text, _)) = (least(kind, "build"), least(kind, "text"));
+        println!("{kind:14} build {build:4} KiB  text {text:4} KiB  {answer}");
     }
 }

@@ -3,6 +3,7 @@
 //! The compiler behind this crate is written in Rattle and proved: for any bytes whatsoever the answer and every byte of the slice
 //! that is lent are those of its definition (`crates/rules/specs/Build.antt`, `hostOf` and `hostBytes`). It needs no heap, keeps no
 //! state and takes less than 96 KiB of stack, so it may be called from any number of threads at once. No function here panics.
+//! A refusal has the old Rust compiler's own text, where there is one ([`Refusal::text`]; `crates/rules/specs/Texts.antt`).
 //!
 //! From a tree:
 //!
@@ -30,16 +31,25 @@
 //! ```
 
 #![deny(missing_debug_implementations, missing_docs, unsafe_code)]
+// A refusal holds its text in place, so that none needs the heap.
+#![allow(clippy::large_enum_variant, clippy::result_large_err)]
 
 pub mod ast;
+#[cfg(test)]
+#[path = "../tests/common/guard.rs"]
+mod guard;
 mod image;
 #[allow(unsafe_code)]
 mod raw;
 mod refusal;
+#[cfg(test)]
+#[path = "../tests/common/tree.rs"]
+mod tree;
 
 pub use image::{image, Unwritable};
 pub use refusal::Refusal;
 
+use refusal::Text;
 use std::error::Error;
 use std::fmt;
 
@@ -95,7 +105,7 @@ impl Error for Failure {
 /// assert_eq!(out, [0; 13]);
 /// ```
 pub fn build_into(image: &[u8], out: &mut [u8]) -> Result<usize, Refusal> {
-    Refusal::unpack(raw::build(image, out))
+    Refusal::unpack(raw::build(image, out), image)
 }
 
 /// The words of an image.
@@ -123,7 +133,7 @@ pub fn build(contract: &ast::Contract) -> Result<Vec<u64>, Failure> {
 /// assert_eq!(haspnettle::build_image(&image).unwrap_err().number, 40);
 /// ```
 pub fn analyse(image: &[u8]) -> Result<(), Refusal> {
-    Refusal::unpack(raw::analyse(image)).map(|_| ())
+    Refusal::unpack(raw::analyse(image), image).map(|_| ())
 }
 
 /// Analyses a contract.
@@ -135,10 +145,25 @@ pub fn analyse(image: &[u8]) -> Result<(), Refusal> {
 /// let main = Function { name: "main".into(), params: vec![], return_type: None, body, is_pub: false };
 /// let contract = Contract { name: "c".into(), storage: vec![], structs: vec![], functions: vec![main] };
 /// let failure = haspnettle::analyse_contract(&contract).unwrap_err();
-/// assert_eq!(failure.to_string(), "undefined identifier (10), at byte 78");
+/// assert_eq!(failure.to_string(), "SemanticError: Undefined identifier: x");
 /// ```
 pub fn analyse_contract(contract: &ast::Contract) -> Result<(), Failure> {
     Ok(analyse(&image(contract)?)?)
+}
+
+/// The Rust's own text of an image's refusal; none where the image is built, or its refusal (1 to 7, 30) has none.
+///
+/// ```
+/// # use haspnettle::ast::{Contract, Expr, Function, Stmt};
+/// # let body = vec![Stmt::Assign("x".into(), Expr::Int(1))];
+/// # let main = Function { name: "main".into(), params: vec![], return_type: None, body, is_pub: false };
+/// # let contract = Contract { name: "c".into(), storage: vec![], structs: vec![], functions: vec![main] };
+/// let image = haspnettle::image(&contract).unwrap();
+/// assert_eq!(haspnettle::text(&image).unwrap(), "SemanticError: Undefined variable: x");
+/// assert_eq!(haspnettle::text(b"no image"), None);
+/// ```
+pub fn text(image: &[u8]) -> Option<String> {
+    Text::of(image).map(|text| text.as_str().into())
 }
 
 // What `build` leaves in a slice of so many words; where 50 tells that they are more, in one of just so many.
@@ -160,13 +185,17 @@ mod tests {
     use super::{words, Refusal};
     use std::cell::RefCell;
 
+    fn refused(number: u8) -> Refusal {
+        Refusal { number, place: 0, count: 5, text: None }
+    }
+
     // Builds five words, or refuses; and the rooms that it was lent, in bytes.
     fn tried(room: usize, number: u8) -> (Result<Vec<u64>, Refusal>, Vec<usize>) {
         let rooms = RefCell::new(vec![]);
         let build = |out: &mut [u8]| {
             rooms.borrow_mut().push(out.len());
             if out.len() < 40 {
-                return Err(Refusal { number, place: 0, count: 5 });
+                return Err(refused(number));
             }
             out[..40].fill(1);
             Ok(5)
@@ -185,7 +214,7 @@ mod tests {
     #[test]
     fn nothing_but_50_is_tried_again() {
         for number in (1..=255).filter(|n| *n != 50) {
-            assert_eq!(tried(4, number), (Err(Refusal { number, place: 0, count: 5 }), vec![32]));
+            assert_eq!(tried(4, number), (Err(refused(number)), vec![32]));
         }
     }
 }

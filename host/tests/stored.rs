@@ -2,7 +2,7 @@
 mod common;
 
 use common::{guarded, stored, told};
-use haspnettle::analyse;
+use haspnettle::{analyse, build_image, text};
 
 fn fnv(bytes: &[u8]) -> u64 {
     bytes.iter().fold(0xCBF2_9CE4_8422_2325, |h, b| (h ^ u64::from(*b)).wrapping_mul(0x100_0000_01B3))
@@ -34,4 +34,15 @@ fn every_stored_analysis() {
     }
     // What generation or 30 refuses is among them.
     assert!((30..=47).filter(|n| all.iter().any(|c| c.built.0 == *n && c.analysed.0 == 0)).eq([30].into_iter().chain(40..=47)));
+}
+
+#[test]
+fn every_stored_text() {
+    let all = stored();
+    for (n, case) in all.iter().enumerate() {
+        assert_eq!(text(&case.image), case.text, "case {n}");
+        assert_eq!(build_image(&case.image).err().and_then(|r| r.text().map(String::from)), case.text, "case {n}");
+    }
+    // Each refusal that has one is among them.
+    assert!((0..=255).filter(|n| all.iter().any(|c| c.built.0 == *n && c.text.is_some())).eq((10..=22).chain(40..=47)));
 }

@@ -3,7 +3,7 @@ mod common;
 
 use common::ast::{Contract, Stmt};
 use common::{edges::*, guarded, listed, sample, samples, told, tree::*, whole, Told};
-use haspnettle::{analyse, build_image, image};
+use haspnettle::{analyse, build_image, image, text};
 use std::thread;
 
 // An image, and its words or refusal.
@@ -68,6 +68,7 @@ fn holds((img, says): &Case) {
     assert_eq!(build_image(img).map_err(told), *says);
     let analysed = says.as_ref().err().filter(|r| r.0 < 30).map_or(Ok(()), |r| Err(*r));
     assert_eq!(analyse(img).map_err(told), analysed);
+    assert_eq!(text(img).is_some(), says.as_ref().is_err_and(|r| matches!(r.0, 10..=22 | 40..=47)));
 }
 
 #[test]

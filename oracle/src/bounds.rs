@@ -145,6 +145,7 @@ pub fn all() -> Vec<Edge> {
     let mut out = [small(), worse(), large()].concat();
     out.extend(crate::tricks::all().into_iter().map(|img| ("a rule that is easy to lose", img)));
     out.extend(crate::meant::all().iter().map(|c| (c.what, c.image())));
+    out.extend(crate::texts::all().iter().map(|c| ("a text", c.image())));
     out.extend(crate::damage::every(&encode(&rich())).into_iter().map(|img| ("the contract of all constructs, changed", img)));
     out
 }

@@ -51,6 +51,7 @@ pub fn hold(img: &[u8]) -> Result<Program, Refusal> {
     hold_place(img, generate(img, &bases).as_ref().err());
     hold_words(img, &tree, &Bases::new());
     let answer = program(img);
+    same(img, "the text", answer.as_ref().err(), heard(img, &answer).as_ref());
     let place_of_30 = answer.as_ref().err().filter(|r| r.number == 30).map(|r| r.place);
     same(img, "30, given exactly where an access is ambiguous", place_of_30, ambiguous(img, &bases));
     if was_30(img) {
@@ -123,11 +124,17 @@ fn hold_words(img: &[u8], tree: &Contract, bases: &Bases) {
     }
 }
 
-/// The Rust's own text for an image that passes the check, if it refuses it.
-pub fn rust_text(img: &[u8]) -> Result<Option<String>, check::Fault> {
-    check::check(img)?;
+/// The Rust's own text for an image that passes the check; empty where it builds it.
+pub fn rust_text(img: &[u8]) -> String {
     let tree = image::decode(img);
     let sema = SemanticAnalyzer::new().analyze(&tree);
     let all = sema.and_then(|_| Codegen::new().generate(&tree));
-    Ok(all.err().map(|e| told(&e)))
+    all.err().map_or(String::new(), |e| told(&e))
+}
+
+/// The refusal of an answer with the Rust's own text, which no offset changes; it has none for 1 to 7 and 30.
+pub fn heard(img: &[u8], answer: &Result<Program, Refusal>) -> Option<Refusal> {
+    let r = answer.as_ref().err()?;
+    let text = if matches!(r.number, 1..=7 | 30) { String::new() } else { rust_text(img) };
+    Some(Refusal { text, ..r.clone() })
 }

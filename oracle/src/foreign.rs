@@ -1,10 +1,12 @@
-// A static library's entries (HASP_LIB, one cargo feature each) against the model.
-use crate::model::{analysed, build, host, program, was_30, Answer, Refusal};
+// A static library's entries (HASP_LIB, one cargo feature each) against the model, its texts against the Rust's own.
+use crate::model::{analysed, build, host, program, text, was_30, Answer, Refusal, TEXT_ROOM};
 use crate::{bounds, check, compare, generation::Program};
 
 /// What stands around and in the slices that are lent.
 const POISON: u64 = 0xA5A5_A5A5_A5A5_A5A5;
 const GUARD: usize = 16;
+/// The lengths of the slices that are lent for a text.
+const TEXT_SLICES: [usize; 5] = [0, TEXT_ROOM - 1, TEXT_ROOM, TEXT_ROOM + 1, 1000];
 
 // SAFETY of every call below: the slices are live for the call and apart, and the library keeps no pointer.
 extern "C" {
@@ -16,12 +18,15 @@ extern "C" {
     fn host_build(img: *const u8, len: usize, out: *mut u8, room: usize) -> u64;
     #[cfg(feature = "host")]
     fn host_analyse(img: *const u8, len: usize) -> u64;
+    #[cfg(feature = "text")]
+    fn host_text(img: *const u8, len: usize, out: *mut u8, room: usize) -> u64;
 }
 
 pub const CHECK: bool = cfg!(feature = "check");
 pub const BUILD: bool = cfg!(feature = "build");
 pub const HOST: bool = cfg!(feature = "host");
-const ANY: bool = CHECK || BUILD || HOST;
+const TEXT: bool = cfg!(feature = "text");
+const ANY: bool = CHECK || BUILD || HOST || TEXT;
 
 /// The library's check; 0 where it is not linked.
 pub fn lib_check(_img: &[u8]) -> u64 {
@@ -52,33 +57,62 @@ pub fn lib_host(_img: &[u8], _out: &mut [u8]) -> u64 {
     0
 }
 
+fn lib_text(_img: &[u8], _out: &mut [u8]) -> u64 {
+    #[cfg(feature = "text")]
+    return unsafe { host_text(_img.as_ptr(), _img.len(), _out.as_mut_ptr(), _out.len()) };
+    #[cfg(not(feature = "text"))]
+    0
+}
+
 /// Compares what is linked over n seeds and every edge, on a thread with a stack of HASP_STACK bytes (2 MiB).
 pub fn compare(n: u64, seed: u64, image: fn(u64) -> Vec<u8>) -> Result<(), String> {
     if !ANY {
-        return Err("no entry is linked: build with --features check,build,host and HASP_LIB".into());
+        return Err("no entry is linked: build with --features check,build,host,text and HASP_LIB".into());
     }
     let stack = std::env::var("HASP_STACK").ok().and_then(|s| s.parse().ok()).unwrap_or(2 << 20);
     let thread = std::thread::Builder::new().stack_size(stack).spawn(move || all(n, seed, image)).map_err(|e| e.to_string())?;
     thread.join().map_err(|_| "the comparing thread broke".to_string())?
 }
 
+/// Of the images compared: how many are newly built, how many have a text, and in how many of these the name alone leaves an offset open.
+#[derive(Default)]
+struct Seen {
+    newly: u64,
+    texts: u64,
+    open: u64,
+}
+
+impl Seen {
+    fn count(&mut self, img: &[u8], p: &Result<Program, Refusal>) {
+        let (open, text) = (was_30(img), p.as_ref().is_err_and(|r| !r.text.is_empty()));
+        self.newly += (open && p.is_ok()) as u64;
+        self.texts += text as u64;
+        self.open += (open && text) as u64;
+    }
+}
+
 fn all(n: u64, seed: u64, image: fn(u64) -> Vec<u8>) -> Result<(), String> {
+    let (mut edges, mut seeds) = (Seen::default(), Seen::default());
     for (what, img) in &bounds::all() {
-        one(img).map_err(|e| format!("{what}: {e}"))?;
+        one(img, &mut edges).map_err(|e| format!("{what}: {e}"))?;
     }
-    let mut newly = 0;
     for s in seed..seed + n {
-        let img = image(s);
-        one(&img).map_err(|e| format!("seed {s}: {e}"))?;
-        newly += (was_30(&img) && program(&img).is_ok()) as u64;
+        one(&image(s), &mut seeds).map_err(|e| format!("seed {s}: {e}"))?;
     }
-    let linked = [("check", CHECK), ("build", BUILD), ("host_analyse, host_build", HOST)];
+    let linked = [("check", CHECK), ("build", BUILD), ("host_analyse, host_build", HOST), ("host_text", TEXT)];
     let names: Vec<&str> = linked.iter().filter(|l| l.1).map(|l| l.0).collect();
-    println!("{n} seeds, {newly} of them newly built, and every edge: {} equal", names.join(", "));
+    println!("{n} seeds, {} of them newly built, and every edge: {} equal", seeds.newly, names.join(", "));
+    if TEXT {
+        let open = seeds.open + edges.open;
+        println!(
+            "{} texts of the seeds and {} of the edges, each as the Rust says it; in {open} an offset is open by the name alone",
+            seeds.texts, edges.texts
+        );
+    }
     Ok(())
 }
 
-fn one(img: &[u8]) -> Result<(), String> {
+fn one(img: &[u8], seen: &mut Seen) -> Result<(), String> {
     if CHECK {
         let ours = check::check(img).map_or_else(|f| Answer::of(&f.into()).packed(), |_| 0);
         same(img, "check", ours, lib_check(img))?;
@@ -87,10 +121,11 @@ fn one(img: &[u8]) -> Result<(), String> {
         let ours = analysed(img).map_or_else(|r| Answer::of(&r).packed(), |_| 0);
         same(img, "analyse", ours, lib_analyse(img))?;
     }
-    if !BUILD && !HOST {
-        return Ok(());
-    }
     let p = program(img);
+    seen.count(img, &p);
+    if TEXT {
+        one_text(img, &p)?;
+    }
     let (words, numbers) = p.as_ref().map_or((5, 7), |p| (p.words.len(), 3 * p.table.len()));
     for (room, table) in
         [(words, numbers), (words + 9, numbers + 5), (words - 1, numbers + 3), (words + 2, numbers - 1), (0, 0), (words, 0)]
@@ -99,7 +134,7 @@ fn one(img: &[u8]) -> Result<(), String> {
             one_build(img, &p, room, table)?;
         }
         if HOST {
-            one_host(img, &p, 8 * room + table % 8)?;
+            one_slice(img, "host", 8 * room + table % 8, |out| host(&p, out), lib_host)?;
         }
     }
     Ok(())
@@ -128,13 +163,19 @@ fn one_build(img: &[u8], p: &Result<Program, Refusal>, room: usize, table: usize
     equal(img, "the table", &entries, &entries2)
 }
 
-fn one_host(img: &[u8], p: &Result<Program, Refusal>, room: usize) -> Result<(), String> {
-    let mut bytes = guarded(0xA5u8, room);
+fn one_text(img: &[u8], p: &Result<Program, Refusal>) -> Result<(), String> {
+    let heard = compare::heard(img, p);
+    TEXT_SLICES.into_iter().try_for_each(|len| one_slice(img, "text", len, |out| text(heard.as_ref(), out), lib_text))
+}
+
+type Library = fn(&[u8], &mut [u8]) -> u64;
+
+fn one_slice(img: &[u8], what: &str, len: usize, model: impl Fn(&mut [u8]) -> Answer, library: Library) -> Result<(), String> {
+    let mut bytes = guarded(0xA5u8, len);
     let mut bytes2 = bytes.clone();
-    let ours = host(p, &mut bytes[GUARD..GUARD + room]);
-    let library = lib_host(img, &mut bytes2[GUARD..GUARD + room]);
-    same(img, "host", ours.packed(), library)?;
-    equal(img, "a byte", &bytes, &bytes2)
+    let ours = model(&mut bytes[GUARD..GUARD + len]);
+    same(img, what, ours.packed(), library(img, &mut bytes2[GUARD..GUARD + len]))?;
+    equal(img, &format!("{what}: a byte"), &bytes, &bytes2)
 }
 
 fn equal<T: PartialEq + std::fmt::Debug>(img: &[u8], what: &str, model: &[T], library: &[T]) -> Result<(), String> {

@@ -156,7 +156,7 @@ pub fn print() -> Result<(), String> {
     for (what, c) in all() {
         let img = encode(&c);
         _ = hold(&img);
-        let text = rust_text(&img).ok().flatten().unwrap_or_default();
+        let text = rust_text(&img);
         println!("{what}\nimage {}\nRust {}\n{}", hex(&img), if text.is_empty() { "builds it" } else { &text }, listing(&img, 8192, 768));
     }
     Ok(())

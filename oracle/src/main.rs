@@ -26,6 +26,7 @@ mod rng;
 mod samples;
 mod selfcheck;
 mod store;
+mod texts;
 mod tricks;
 
 // The crate's own: its writer, and what its tests build trees with.
@@ -133,7 +134,10 @@ fn analyse(file: &str) -> Said {
 }
 
 fn text(file: &str) -> Said {
-    let told = compare::rust_text(&load(file)?).map_err(|f| format!("the image check refuses it: {} at {}", f.number, f.place))?;
-    println!("{}", told.unwrap_or_default());
+    let img = load(file)?;
+    let refusal = compare::heard(&img, &model::program(&img));
+    let a = model::text(refusal.as_ref(), &mut [0; model::TEXT_ROOM]);
+    println!("{} {} {}", a.refusal, a.place, a.count);
+    refusal.filter(|_| a.count > 0).iter().for_each(|r| println!("{}", r.text));
     Ok(())
 }

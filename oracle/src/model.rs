@@ -4,6 +4,9 @@ use crate::check::{check, Fault};
 use crate::generation::{generate, positions, Program};
 use crate::image::*;
 
+/// The bytes that a slice for a text must have.
+pub const TEXT_ROOM: usize = 256;
+
 /// A refusal with the Rust's text for it, in the form "Variant: text"; empty where the Rust has none.
 #[derive(Clone, Debug, PartialEq, Eq)]
 pub struct Refusal {
@@ -104,6 +107,17 @@ pub fn host(p: &Result<Program, Refusal>, bytes: &mut [u8]) -> Answer {
         _ => bytes.fill(0),
     }
     a
+}
+
+/// The texts (document 02, P1): over the slice's first bytes; past the text, or where there is none, the slice stays as lent.
+pub fn text(refusal: Option<&Refusal>, out: &mut [u8]) -> Answer {
+    let none = |refusal| Answer { refusal, place: 0, count: 0 };
+    if out.len() < TEXT_ROOM {
+        return none(52);
+    }
+    let Some(r) = refusal else { return none(0) };
+    out[..r.text.len()].copy_from_slice(r.text.as_bytes());
+    Answer { count: r.text.len() as u32, ..Answer::of(r) }
 }
 
 fn answer(p: &Result<Program, Refusal>, room: usize, table: Option<usize>) -> Answer {

@@ -2,7 +2,7 @@
 use crate::image::{is_leaf, rec_at, Rec};
 use crate::model::{build, host, was_30, Answer};
 use crate::samples::{ROOM, TABLE};
-use crate::{bounds, cases, compare, meant, samples, store};
+use crate::{bounds, cases, compare, meant, samples, store, texts};
 use std::collections::BTreeMap;
 use std::io::Write;
 use std::process::{Command, Stdio};
@@ -26,6 +26,7 @@ pub fn run(seeds: u64, image: fn(u64) -> Vec<u8>) -> Result<(), String> {
     let mut hits = Hits::default();
     samples_hold(&mut hits)?;
     meant::all().iter().try_for_each(|c| c.holds())?;
+    texts::all().iter().try_for_each(|c| c.holds())?;
     for (_, tree) in bounds::trees().iter().chain(&bounds::large_trees()) {
         compare::hold_writer(tree);
     }

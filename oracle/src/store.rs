@@ -9,16 +9,19 @@ use crate::rng::Rng;
 use crate::samples::{ROOM, TABLE};
 use crate::selfcheck::EVERY;
 use crate::tree::{if_, int, main_of};
-use crate::{accesses, bounds, cases, compare, damage, kept, meant, samples, tricks};
+use crate::{accesses, bounds, cases, compare, damage, kept, meant, samples, texts, tricks};
 use std::collections::{BTreeMap, BTreeSet};
 
-const MAGIC: &[u8; 8] = b"HASPANS1";
+const MAGIC: &[u8; 8] = b"HASPANS2";
 const HEADER: usize = 32;
-const CASE: usize = 48;
+const CASE: usize = 52;
 /// Where a case has a number of an answer: refusal, place, count, both checksums, analyse's refusal and place.
 const ANSWERS: [usize; 7] = [12, 16, 20, 24, 32, 40, 44];
+/// Where it has the length of its text.
+const TEXT_LENGTH: usize = 48;
 const CODE_POISON: u64 = 0xA5A5_A5A5_A5A5_A5A5;
 const TABLE_POISON: u64 = 0x5A5A_5A5A_5A5A_5A5A;
+const TEXT_POISON: u8 = 0xA5;
 /// The first seed that is looked at.
 const SEED: u64 = 1_000_000;
 const SEEDS: u64 = 200_000;
@@ -87,10 +90,12 @@ pub fn store(dir: &str) -> Result<(), String> {
     all.seeds();
     meant::all().iter().for_each(|c| all.case(&c.image(), 128, 16));
     all.newly();
+    texts::all().iter().for_each(|c| all.case(&c.image(), 4, 6));
     all.complete()?;
-    let file = all.file(&wrong());
+    let wrong = wrong();
+    let file = all.file(&wrong);
     crate::save(&format!("{dir}/answers.bin"), &file)?;
-    println!("{} cases and {} wrong ones, {} bytes", all.count, ANSWERS.len(), file.len());
+    println!("{} cases and {} wrong ones, {} bytes", all.count, wrong.len(), file.len());
     all.given.iter().for_each(|(n, k)| println!("{n:3} {k}"));
     Ok(())
 }
@@ -104,40 +109,52 @@ pub fn replay(file: &str) -> Result<(), String> {
     let count = u32_at(&all, 8);
     let mut at = HEADER;
     for n in 0..count {
-        let len = u32_at(&all, at) as usize;
-        let img = &all[at + CASE..at + CASE + len];
-        let mut again = Stored::default();
-        again.add(img, u32_at(&all, at + 4) as usize, u32_at(&all, at + 8) as usize, &program(img));
-        if again.bytes != all[at..at + CASE + len] {
+        let img = &all[at + CASE..at + CASE + u32_at(&all, at) as usize];
+        let again = case_of(img, u32_at(&all, at + 4) as usize, u32_at(&all, at + 8) as usize);
+        if !all[at..].starts_with(&again) {
             return Err(format!("case {n} is answered otherwise: image {}", compare::hex(img)));
         }
-        at += CASE + len;
+        at += again.len();
     }
-    if all[at..] != wrong() {
+    if all[at..] != wrong().concat() {
         return Err(format!("{file} has other wrong cases at {at}"));
     }
     println!("{count} cases equal");
     Ok(())
 }
 
-// C1 with each number of its answers one too high in turn, so that a comparison which is lost is noticed.
-fn wrong() -> Vec<u8> {
-    let c1 = &samples::all()[0].image;
-    let spoilt = |at: usize| {
-        let mut one = Stored::default();
-        one.add(c1, 16, 6, &program(c1));
-        one.bytes[at] += 1;
-        one.bytes
+// An image as a case.
+fn case_of(img: &[u8], room: usize, table: usize) -> Vec<u8> {
+    let mut one = Stored::default();
+    one.add(img, room, table, &program(img));
+    one.bytes
+}
+
+// C1 with each number of its answers one too high in turn, C9 with its text's length alone one too high (what lies behind the text is the
+// poison) and with another last byte, so that a comparison which is lost is noticed.
+fn wrong() -> Vec<Vec<u8>> {
+    let all = samples::all();
+    let spoilt = |name, change: &dyn Fn(&mut Vec<u8>)| {
+        let sample = all.iter().find(|s| s.name == name).expect("a sample");
+        let mut case = case_of(&sample.image, 16, 6);
+        change(&mut case);
+        case
     };
-    ANSWERS.into_iter().flat_map(spoilt).collect()
+    let mut out: Vec<Vec<u8>> = ANSWERS.iter().map(|&at| spoilt("c1", &|case| case[at] += 1)).collect();
+    out.push(spoilt("c9", &|case| {
+        case[TEXT_LENGTH] += 1;
+        case.push(TEXT_POISON);
+    }));
+    out.push(spoilt("c9", &|case| *case.last_mut().expect("a text") += 1));
+    out
 }
 
 impl Stored {
-    fn file(&self, wrong: &[u8]) -> Vec<u8> {
-        let length = HEADER + self.bytes.len() + wrong.len();
-        let numbers = [self.count as usize, length, self.most[0], self.most[1], self.most[2], ANSWERS.len()];
+    fn file(&self, wrong: &[Vec<u8>]) -> Vec<u8> {
+        let cases = [&self.bytes[..], &wrong.concat()].concat();
+        let numbers = [self.count as usize, HEADER + cases.len(), self.most[0], self.most[1], self.most[2], wrong.len()];
         let header = numbers.iter().flat_map(|n| (*n as u32).to_le_bytes()).collect();
-        [MAGIC.to_vec(), header, self.bytes.clone(), wrong.to_vec()].concat()
+        [MAGIC.to_vec(), header, cases].concat()
     }
 
     fn case(&mut self, img: &[u8], room: usize, table: usize) {
@@ -152,8 +169,10 @@ impl Stored {
         [img.len() as u32, room as u32, table as u32, a.refusal, a.place, a.count].into_iter().for_each(&mut number);
         let sums = [fnv(&code), fnv(&entries)];
         sums.iter().for_each(|s| [*s as u32, (*s >> 32) as u32].into_iter().for_each(&mut number));
-        [sema.refusal, sema.place].into_iter().for_each(&mut number);
+        let text = p.as_ref().err().map_or("", |r| &r.text);
+        [sema.refusal, sema.place, text.len() as u32].into_iter().for_each(&mut number);
         self.bytes.extend(img);
+        self.bytes.extend(text.as_bytes());
         self.count += 1;
         for (most, n) in self.most.iter_mut().zip([img.len(), room, table]) {
             *most = n.max(*most);

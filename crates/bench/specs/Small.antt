@@ -17,12 +17,12 @@ use Rattle.rules.specs.Read.{contractAt}
 use Rattle.rules.specs.Refusal.{Refusal, Res, ok, bad, _>>=_, unless, answer, refused, numberOf, placeOf}
 use Rattle.rules.specs.Emit.{Rules}
 use Rattle.rules.specs.Link.{Program}
-use Rattle.rules.specs.Build.{passed, program, fits, listed, outcome, programAnswer, packed, buildOf}
+use Rattle.rules.specs.Build.{passed, analysed, program, fits, listed, outcome, programAnswer, packed, buildOf}
 use Rattle.bounds.specs.Cuts.{cut}
+use Rattle.bounds.specs.Said.{said-of}
+use Rattle.bounds.specs.Refused.{analysed-plain}
 use Rattle.bounds.specs.Programs.{program-bounded}
 use Rattle.heights.specs.Theorem.{as-many}
-use Rattle.host.specs.Near.{Near, near-bad}
-use Rattle.host.specs.Nearby.{check-near, program-near}
 use Rattle.host.specs.Ends.{Small, small-refused, refusal-plain}
 
 -- The check's answer as three numbers (01: What comes back).
@@ -39,15 +39,12 @@ unfolding checked
 faulty img number place e = rw e refl
 
 pub small-check : (img : List ℕ) (number place : ℕ) → checkOf img ≡ Fault number place → Small (answer number place 0)
-unfolding passed numberOf placeOf refused
-small-check img number place e = by (rw e at (check-near img))
-  where
-    by : {P : Unit {0} → Type 0} → Near 65536 P (bad (Refusal.fault number place)) → Small (answer number place 0)
-    by (near-bad _ h) = record { refusal = omega (arith, h .0); place = omega (arith, h .1); count = omega arith }
+unfolding analysed passed _>>=_ refused
+small-check img number place e = small-refused (Refusal.fault number place) (said-of (analysed-plain img) (rw e refl))
 
 pub small-build : (R : Rules) → R .free ≤ 30 → (img code table : List ℕ) → Small (buildOf R img code table)
 unfolding buildOf outcome _>>=_ fits listed unless programAnswer refused numberOf placeOf
-small-build R few img code table = by (program R img) refl (program-near R img)
+small-build R few img code table = by (program R img) refl
   where
     entries : (P : Program) (t : Bool) → length (P .words) < 1048576 → length (P .table) ≤ 256 → Small (programAnswer (unless t (Refusal.no-table (length (P .table))) P))
     entries P true w h = record { refusal = omega arith; place = omega arith; count = omega (arith, h) }
@@ -57,8 +54,8 @@ small-build R few img code table = by (program R img) refl (program-near R img)
     words P true w h = record { refusal = omega arith; place = omega arith; count = omega (arith, w) }
     words P false w h = entries P (ltb (length table / 3) (length (P .table))) w h
 
-    by : (m : Res Program) → program R img ≡ m → Near 65536 (λ (P : Program). Unit {0}) m → Small (programAnswer (m >>= λ P. fits (length code) P >>= λ Q. listed (length table) Q))
-    by (ok P) e h =
+    by : (m : Res Program) → program R img ≡ m → Small (programAnswer (m >>= λ P. fits (length code) P >>= λ Q. listed (length table) Q))
+    by (ok P) e =
         let l : length (P .table) ≡ length (contractAt img .functions) = as-many R img P e in
         words P (ltb (length code) (length (P .words))) (program-bounded R few img P e .short) (omega (arith, l, cut img .functions))
-    by (bad q) e (near-bad _ h) = small-refused q h (refusal-plain R img q e)
+    by (bad q) e = small-refused q (refusal-plain R img q e)

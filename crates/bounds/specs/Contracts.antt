@@ -3,26 +3,27 @@
 -- Assumes nothing.
 use mathlib.Core.Path.{_≡_, refl, sym, subst}
 use mathlib.Core.Bool.{Bool, true, false}
-use mathlib.Core.List.{List, map}
+use mathlib.Core.List.{List, [], _∷_, map}
 use Prim.Native.Nat.{ℕ, zero, suc, _+_, _*_, _≤_, _<_}
 use native.Mathlib.Omega.{arith}
 use lib.Dec.{eqb}
 use lib.ListN.{length, length-map}
 use Rattle.rules.specs.declared.Seen.the-variants.{Sound}
-use Rattle.rules.specs.Bytes.{pick, kindAt, inside, after}
+use Rattle.rules.specs.Bytes.{pick, kindAt, inside, after, nameAt}
 use Rattle.rules.specs.Grammar as due
 use Rattle.rules.specs.Grammar.{classes, classOf, records, partsOf, partOf, dueAt}
 use Rattle.rules.specs.Check.{counts, varsIn, startOf, recordOf, checkOf}
-use Rattle.rules.specs.Tree.{Function, Contract}
+use Rattle.rules.specs.Tree.{Field, Struct, Function, Contract}
 use Rattle.rules.specs.Types.{Typ, Env}
 use Rattle.rules.specs.Meant.{ofStmts, ofFunction, ofFunctions, accesses}
-use Rattle.rules.specs.Read.{second, third, fourth, fifth, placesFrom, placesIn, fieldAt, fieldsAt, functionAt, contractAt}
+use Rattle.rules.specs.Tables.{mapped, nth}
+use Rattle.rules.specs.Read.{second, third, fourth, fifth, placesFrom, placesIn, fieldAt, fieldsAt, structAt, functionAt, contractAt}
 use Rattle.rules.specs.Joined.{whole}
-use Rattle.bounds.specs.Held.{Each, each-of-map}
+use Rattle.bounds.specs.Held.{Opt, Each, each-of-map, each-to-map}
 use Rattle.bounds.specs.Sizes.{nodes-function, nodes-functions, vars-stmts}
 use Rattle.bounds.specs.Sound.{Run, no-more, one-more, none-left, stands}
-use Rattle.bounds.specs.Whole.{Reads, read-all, read-one, Complete, Whole-function}
-use Rattle.bounds.specs.Runs.{part-due, no-part, leaf, name-part, flag-part, of-kind, places-end, places-more, run-reads}
+use Rattle.bounds.specs.Whole.{Reads, read-all, read-one, Complete, Short, Short-types, Whole-function}
+use Rattle.bounds.specs.Runs.{part-due, no-part, leaf, short, name-part, flag-part, of-kind, places-end, places-more, run-reads}
 use Rattle.bounds.specs.Sparse.{Sparse, sparse-none, sparse-in, sparse-then}
 use Rattle.bounds.specs.Stmts as stmts
 use Rattle.bounds.specs.Stmts.{body-part}
@@ -52,6 +53,41 @@ bounded (suc l) img at end d i v q m h b e =
     run-bounded l img (after img at) d (kindAt img at) 0 _ _ m (λ at₁ d₁ i₁ v₁ q₁ m₁ b₁ e₁. bounded l img at₁ (after img at) d₁ i₁ v₁ q₁ m₁ f b₁ e₁)
     (vars-bounded d (kindAt img at) v (w .few) b) (w .parts)
 
+-- What holds of each sound record of a List.
+each-run : (P : ℕ → Type 0) (fuel l : ℕ) (img : List ℕ) (end d i p v m : ℕ) → ((q j n o : ℕ) → recordOf l img q end (classOf d .item) j n ≡ Sound (after img q) o → P q)
+    → Run l img end d 2 i p v m → Each P (placesFrom fuel img p end)
+unfolding dueAt pick placesFrom
+each-run P fuel l img end d i p v m f (no-more e n c) = subst (Each P) (sym (places-end fuel img p end e)) tt
+each-run P zero l img end d i p v m f (one-more n s z o e r) = tt
+each-run P (suc fuel) l img end d i p v m f (one-more n s z o e r) =
+    subst (Each P) (sym (places-more fuel img p end s)) (f p i v n e, each-run P fuel l img end d (i + 1) (after img p) n m f r)
+
+-- As a part of an image.
+each-in : (P : ℕ → Type 0) (B l : ℕ) (img : List ℕ) (at end d i v q m : ℕ) → end ≤ length img → classOf d .low ≡ 2 → classOf d .high ≡ 2
+    → ((k q e j n o : ℕ) → e ≤ length img → recordOf k img q e (classOf d .item) j n ≡ Sound (after img q) o → P q)
+    → recordOf l img at end d i v ≡ Sound q m → Each P (placesIn B img at)
+unfolding startOf pick
+each-in P B zero img at end d i v q m h lo hi f e = none-left img at end d i v q m e
+each-in P B (suc l) img at end d i v q m h lo hi f e =
+    let w = stands l img at end d i v q m h e in
+    let k : kindAt img at ≡ 2 = omega (arith, w .low, w .high) in
+    let g : after img at ≤ length img = omega (arith, w .within) in
+    each-run P B l img (after img at) d 0 (inside img at) (varsIn d 2 v) m (λ q₁ j n o. f l q₁ (after img at) j n o g) (of-kind l img at end d i v m 2 k w)
+
+-- The type of a Field is short.
+field-type : (l : ℕ) (img : List ℕ) (at end d i v q m : ℕ) → end ≤ length img → classOf d .low ≡ 17 → classOf d .high ≡ 17 → recordOf l img at end d i v ≡ Sound q m
+    → Short (nameAt img (second img at))
+unfolding startOf pick dueAt partOf partsOf records
+field-type zero img at end d i v q m h lo hi e = none-left img at end d i v q m e
+field-type (suc l) img at end d i v q m h lo hi e =
+    let w = stands l img at end d i v q m h e in
+    let k : kindAt img at ≡ 17 = omega (arith, w .low, w .high) in
+    let r = of-kind l img at end d i v m 17 k w in
+    let f : after img at ≤ length img = omega (arith, w .within) in
+    let (a, x, y, _) = name-part l img (after img at) d 17 0 (inside img at) (varsIn d 17 v) m f refl r in
+    let (b, s, t, z) = name-part l img (after img at) d 17 1 (second img at) (a .counted) m f refl (a .next) in
+    z
+
 -- A parameter: it is counted, and it takes six bytes or more.
 param : (l : ℕ) (img : List ℕ) (at end i v q m : ℕ) → end ≤ length img → recordOf l img at end due.Param i v ≡ Sound q m → (at + 6 ≤ after img at) × (v + 1 ≤ m) × (v < 512)
 unfolding startOf pick classOf classes dueAt partOf partsOf records varsIn counts
@@ -61,8 +97,8 @@ param (suc l) img at end i v q m h e =
     let k : kindAt img at ≡ 17 = omega (arith, w .low, w .high) in
     let r = of-kind l img at end due.Param i v m 17 k w in
     let f : after img at ≤ length img = omega (arith, w .within) in
-    let (a, x, y) = name-part l img (after img at) due.Param 17 0 (inside img at) (v + 1) m f refl r in
-    let (b, s, t) = name-part l img (after img at) due.Param 17 1 (second img at) (a .counted) m f refl (a .next) in
+    let (a, x, y, _) = name-part l img (after img at) due.Param 17 0 (inside img at) (v + 1) m f refl r in
+    let (b, s, t, _) = name-part l img (after img at) due.Param 17 1 (second img at) (a .counted) m f refl (a .next) in
     let z = no-part l img (after img at) due.Param 17 2 (third img at) (b .counted) m refl (b .next) in
     (w .own, omega (arith, y, t, z .1), w .few refl)
 
@@ -119,16 +155,22 @@ record Good-function (img : List ℕ) (p e : ℕ) (f : Function) : Type 0 where
   names : length (f .params) + vars-stmts (f .body) ≤ 512
   marks : (C : Contract) (ret : Typ) (Γ : Env) → Sparse img p e (ofStmts C ret (f .body) Γ)
 
+-- The return type, if there is one.
+opt-first : (img ps : List ℕ) → Each (λ p. Short (nameAt img p)) ps → Opt Short (mapped (nameAt img) (nth 0 ps))
+unfolding mapped nth
+opt-first img [] h = tt
+opt-first img (p ∷ ps) h = h .0
+
 -- A sound Function record: Name, parameters, return type, Flag, body.
 function : (l : ℕ) → l ≤ 64 → (img : List ℕ) (at end i v q m : ℕ) → end ≤ length img → v ≤ 512 → recordOf l img at end due.Function i v ≡ Sound q m → Good-function img at (after img at) (functionAt img at)
-unfolding startOf pick classOf classes dueAt partOf partsOf records varsIn counts nodes-function functionAt fieldsAt
+unfolding startOf pick classOf classes dueAt partOf partsOf records varsIn counts nodes-function functionAt fieldsAt fieldAt
 function zero g img at end i v q m h u e = none-left img at end due.Function i v q m e
 function (suc l) g img at end i v q m h u e =
     let w = stands l img at end due.Function i v q m h e in
     let k : kindAt img at ≡ 19 = omega (arith, w .low, w .high) in
     let o : after img at ≤ length img = omega (arith, w .within) in
     let r = of-kind l img at end due.Function i v m 19 k w in
-    let (a, ax, ay) = name-part l img (after img at) due.Function 19 0 (inside img at) 0 m o refl r in
+    let (a, ax, ay, _) = name-part l img (after img at) due.Function 19 0 (inside img at) 0 m o refl r in
     let b = part-due l img (after img at) due.Function 19 1 (second img at) (a .counted) m refl (a .next) in
     let (bp, bi) = params l img (second img at) (after img at) 1 (a .counted) _ (b .counted) o (b .sound) in
     let c = part-due l img (after img at) due.Function 19 2 (third img at) (b .counted) m refl (b .next) in
@@ -140,7 +182,19 @@ function (suc l) g img at end i v q m h u e =
     let t : m ≤ 512 = bounded (suc l) img at end due.Function i v q m h u e in
     record {
       small = omega (arith, n, w .payload, ax, bp .small, bi, cx, dx, sg .small, s .within);
-      whole = record { params = bp .reads; result = cr; body = sc; stmts = sg .whole };
+      whole = record {
+        here = omega (arith, w .own, o);
+        types = each-to-map (λ (x : Field). Short (x .type)) (fieldAt img) (placesIn 512 img (second img at))
+            (each-in (λ p. Short (nameAt img (second img p))) 512 l img (second img at) (after img at) due.Params 1 (a .counted) _ (b .counted) o refl refl
+            (λ k₁ p z₁ j n₁ o₁ x y. field-type k₁ img p z₁ due.Param j n₁ (after img p) o₁ x refl refl y) (b .sound));
+        ret = opt-first img (placesIn 1 img (third img at))
+            (each-in (λ p. Short (nameAt img p)) 1 l img (third img at) (after img at) due.Result 2 (b .counted) _ (c .counted) o refl refl
+            (λ k₁ p z₁ j n₁ o₁ x y. short k₁ img p z₁ due.ResultName j n₁ (after img p) o₁ x refl refl y) (c .sound));
+        params = bp .reads;
+        result = cr;
+        body = sc;
+        stmts = sg .whole;
+      };
       names = omega (arith, n, t, bp .count, cy, dy, sg .count, z .1);
       marks = λ C ret Γ. sparse-in (omega (arith, w .payload, ax, bp .small, bi, cx, dx)) (s .within) (sg .marks C ret Γ);
     }
@@ -165,28 +219,24 @@ struct (suc l) img at end i v q m h e =
     let k : kindAt img at ≡ 18 = omega (arith, w .low, w .high) in
     let f : after img at ≤ length img = omega (arith, w .within) in
     let r = of-kind l img at end due.Struct i v m 18 k w in
-    let (a, x, y) = name-part l img (after img at) due.Struct 18 0 (inside img at) (varsIn due.Struct 18 v) m f refl r in
+    let (a, x, y, _) = name-part l img (after img at) due.Struct 18 0 (inside img at) (varsIn due.Struct 18 v) m f refl r in
     let b = part-due l img (after img at) due.Struct 18 1 (second img at) (a .counted) m refl (a .next) in
     list l 64 img (second img at) (after img at) due.Fields 1 (a .counted) _ (b .counted) f refl refl (omega arith) (b .sound)
 
--- Those of each struct of a List.
-structs-run : (fuel l : ℕ) (img : List ℕ) (end i p v m : ℕ) → end ≤ length img → Run l img end due.Structs 2 i p v m → Each (λ q. Complete 64 img (second img q)) (placesFrom fuel img p end)
-unfolding pick classOf classes dueAt placesFrom
-structs-run fuel l img end i p v m h (no-more e n c) = subst (Each (λ q. Complete 64 img (second img q))) (sym (places-end fuel img p end e)) tt
-structs-run zero l img end i p v m h (one-more n s z o e r) = tt
-structs-run (suc fuel) l img end i p v m h (one-more n s z o e r) =
-    subst (Each (λ q. Complete 64 img (second img q))) (sym (places-more fuel img p end s))
-    (struct l img p end i v (after img p) n h e, structs-run fuel l img end (i + 1) (after img p) n m h r)
-
--- The List of structs.
-structs : (l : ℕ) (img : List ℕ) (at end i v q m : ℕ) → end ≤ length img → recordOf l img at end due.Structs i v ≡ Sound q m → Each (λ p. Complete 64 img (second img p)) (placesIn 64 img at)
-unfolding startOf pick classOf classes
-structs zero img at end i v q m h e = none-left img at end due.Structs i v q m e
-structs (suc l) img at end i v q m h e =
-    let w = stands l img at end due.Structs i v q m h e in
-    let k : kindAt img at ≡ 2 = omega (arith, w .low, w .high) in
+-- The types of its fields are short.
+struct-types : (l : ℕ) (img : List ℕ) (at end i v q m : ℕ) → end ≤ length img → recordOf l img at end due.Struct i v ≡ Sound q m → Short-types (structAt img at .fields)
+unfolding startOf pick classOf classes dueAt partOf partsOf records structAt fieldsAt fieldAt
+struct-types zero img at end i v q m h e = none-left img at end due.Struct i v q m e
+struct-types (suc l) img at end i v q m h e =
+    let w = stands l img at end due.Struct i v q m h e in
+    let k : kindAt img at ≡ 18 = omega (arith, w .low, w .high) in
     let f : after img at ≤ length img = omega (arith, w .within) in
-    structs-run 64 l img (after img at) 0 (inside img at) (varsIn due.Structs 2 v) m f (of-kind l img at end due.Structs i v m 2 k w)
+    let r = of-kind l img at end due.Struct i v m 18 k w in
+    let (a, x, y, _) = name-part l img (after img at) due.Struct 18 0 (inside img at) (varsIn due.Struct 18 v) m f refl r in
+    let b = part-due l img (after img at) due.Struct 18 1 (second img at) (a .counted) m refl (a .next) in
+    each-to-map (λ (x : Field). Short (x .type)) (fieldAt img) (placesIn 64 img (second img at))
+    (each-in (λ p. Short (nameAt img (second img p))) 64 l img (second img at) (after img at) due.Fields 1 (a .counted) _ (b .counted) f refl refl
+    (λ k₁ p z j n o x₁ y₁. field-type k₁ img p z due.StructField j n (after img p) o x₁ refl refl y₁) (b .sound))
 
 -- The functions of a List.
 record Good-functions (img : List ℕ) (p e : ℕ) (fs : List Function) : Type 0 where
@@ -231,6 +281,7 @@ record Contract-good (img : List ℕ) : Type 0 where
   storage : Complete 256 img (second img 0)
   structs : Complete 64 img (third img 0)
   fields : Each (λ p. Complete 64 img (second img p)) (placesIn 64 img (third img 0))
+  types : Each (λ (s : Struct). Short-types (s .fields)) (contractAt img .structs)
   functions : Complete 256 img (fourth img 0)
   good : Good-functions img 0 (length img) (contractAt img .functions)
 
@@ -242,7 +293,7 @@ contract img q m e =
     let k : kindAt img 0 ≡ 16 = omega (arith, w .low, w .high) in
     let f : after img 0 ≤ length img = w .within in
     let r = of-kind 63 img 0 (length img) due.Contract 0 0 m 16 k w in
-    let (a, ax, ay) = name-part 63 img (after img 0) due.Contract 16 0 (inside img 0) 0 m f refl r in
+    let (a, ax, ay, _) = name-part 63 img (after img 0) due.Contract 16 0 (inside img 0) 0 m f refl r in
     let au : a .counted ≤ 512 = bounded 63 img (inside img 0) (after img 0) due.Name 0 0 _ (a .counted) f (omega arith) (a .sound) in
     let b = part-due 63 img (after img 0) due.Contract 16 1 (second img 0) (a .counted) m refl (a .next) in
     let bu : b .counted ≤ 512 = bounded 63 img (second img 0) (after img 0) due.Storage 1 (a .counted) _ (b .counted) f au (b .sound) in
@@ -253,7 +304,11 @@ contract img q m e =
     record {
       storage = list 63 256 img (second img 0) (after img 0) due.Storage 1 (a .counted) _ (b .counted) f refl refl (omega arith) (b .sound);
       structs = list 63 64 img (third img 0) (after img 0) due.Structs 2 (b .counted) _ (c .counted) f refl refl (omega arith) (c .sound);
-      fields = structs 63 img (third img 0) (after img 0) 2 (b .counted) _ (c .counted) f (c .sound);
+      fields = each-in (λ p. Complete 64 img (second img p)) 64 63 img (third img 0) (after img 0) due.Structs 2 (b .counted) _ (c .counted) f refl refl
+          (λ k₁ p z j n o x y. struct k₁ img p z j n (after img p) o x y) (c .sound);
+      types = each-to-map (λ (s : Struct). Short-types (s .fields)) (structAt img) (placesIn 64 img (third img 0))
+          (each-in (λ p. Short-types (structAt img p .fields)) 64 63 img (third img 0) (after img 0) due.Structs 2 (b .counted) _ (c .counted) f refl refl
+          (λ k₁ p z j n o x y. struct-types k₁ img p z j n (after img p) o x y) (c .sound));
       functions = list 63 256 img (fourth img 0) (after img 0) due.Functions 3 (c .counted) _ (d .counted) f refl refl (omega arith) (d .sound);
       good = record { small = omega (arith, t .small, d .within, f); whole = t .whole; names = t .names; marks = λ C. sparse-in (omega arith) (omega (arith, d .within, f)) (t .marks C) };
     }
@@ -264,6 +319,7 @@ pub record Uncut (img : List ℕ) : Type 0 where
   pub storage : Complete 256 img (second img 0)
   pub structs : Complete 64 img (third img 0)
   pub fields : Each (λ p. Complete 64 img (second img p)) (placesIn 64 img (third img 0))
+  pub types : Each (λ (s : Struct). Short-types (s .fields)) (contractAt img .structs)
   pub functions : Complete 256 img (fourth img 0)
 
 -- As a caller meets it.
@@ -271,7 +327,7 @@ pub uncut : (img : List ℕ) (q m : ℕ) → checkOf img ≡ Sound q m → Uncut
 uncut img q m e =
     let w = whole img q m e in
     let c = contract img q m (w .1) in
-    record { bytes = w .0; storage = c .storage; structs = c .structs; fields = c .fields; functions = c .functions }
+    record { bytes = w .0; storage = c .storage; structs = c .structs; fields = c .fields; types = c .types; functions = c .functions }
 
 -- No function of it has a record that fell back, or a List that was cut.
 pub all-whole : (img : List ℕ) (q m : ℕ) → checkOf img ≡ Sound q m → Each (λ (f : Function). Whole-function img f) (contractAt img .functions)

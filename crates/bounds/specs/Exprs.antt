@@ -19,9 +19,9 @@ use Rattle.rules.specs.Meant.{ofExpr, ofExprs, ofInits}
 use Rattle.rules.specs.Read.{when, second, third, nameIn, kindOf, exprsFrom, initsFrom, exprAs, exprAt}
 use Rattle.bounds.specs.Sizes.{nodes, nodes-exprs, nodes-inits}
 use Rattle.bounds.specs.Sound.{Run, no-more, one-more, Stands, none-left, stands}
-use Rattle.bounds.specs.Whole.{Complete, Whole, Whole-exprs, Whole-inits}
+use Rattle.bounds.specs.Whole.{Named, Complete, Whole, Whole-exprs, Whole-inits}
 use Rattle.bounds.specs.Sparse.{Sparse, sparse-none, sparse-in, sparse-then, sparse-access}
-use Rattle.bounds.specs.Runs.{Part, part-due, no-part, vars-grow, leaf, name-part, op-part, of-kind, run-reads}
+use Rattle.bounds.specs.Runs.{Part, part-due, no-part, vars-grow, name-part, op-part, of-kind, run-reads}
 
 module _ (img : List ℕ) where
   -- What is shown of an expression from p to e, the count going from v to m.
@@ -53,7 +53,8 @@ module _ (img : List ℕ) where
         → classOf (classOf d .item) .low ≡ 64 → classOf (classOf d .item) .high ≡ 71 → classOf (classOf d .item) .most ≤ B
         → recordOf l img at end d i v ≡ Sound q m
         → Complete B img at × Goods (at + 6) (after img at) v m (exprsFrom B (exprAt D img) img (inside img at) (after img at))
-    pub init : (D : ℕ) → l ≤ D → (at end i v q m : ℕ) → end ≤ length img → recordOf l img at end due.Init i v ≡ Sound q m → Good at (after img at) v m (exprAt D img (second img at))
+    pub init : (D : ℕ) → l ≤ D → (at end i v q m : ℕ) → end ≤ length img → recordOf l img at end due.Init i v ≡ Sound q m
+        → Named img at (nameIn img at) × Good at (after img at) v m (exprAt D img (second img at))
     pub inits : (D : ℕ) → l ≤ D → (at end i v q m : ℕ) → end ≤ length img → recordOf l img at end due.Inits i v ≡ Sound q m
         → Complete 64 img at × Good-inits (at + 6) (after img at) v m (initsFrom 64 (exprAt D img) img (inside img at) (after img at))
 
@@ -107,11 +108,11 @@ inits-run fuel l img D g L end i p v m h b (no-more e n c) =
 inits-run zero zero img D g L end i p v m h b (one-more n s z o e r) = none-left img p end _ i v (after img p) n e
 inits-run zero (suc l) img D g L end i p v m h b (one-more n s z o e r) = absurd (let w = stands l img p end _ i v (after img p) n h e in omega (arith, w .room))
 inits-run (suc fuel) l img D g L end i p v m h b (one-more n s z o e r) =
-    let a = L .init D g p end i v (after img p) n h e in
+    let (own, a) = L .init D g p end i v (after img p) n h e in
     let t = inits-run fuel l img D g L end (i + 1) (after img p) n m h (omega arith) r in
     subst (Good-inits img p end v m) (sym (inits-more fuel (exprAt D img) img p end s)) (record {
       small = omega (arith, a .small, t .small);
-      whole = (a .whole, t .whole);
+      whole = (own, a .whole, t .whole);
       count = omega (arith, a .count, t .count);
       marks = λ C Γ. sparse-then (omega (arith, a .small)) (omega (arith, t .small)) (a .marks C Γ) (t .marks C Γ);
     })
@@ -174,19 +175,21 @@ module _ (l : ℕ) (img : List ℕ) (L : Level img l) where
       )
 
   -- An Init: a Name and an expression.
-  init-step : (D : ℕ) → suc l ≤ D → (at end i v q m : ℕ) → end ≤ length img → recordOf (suc l) img at end due.Init i v ≡ Sound q m → Good img at (after img at) v m (exprAt D img (second img at))
+  init-step : (D : ℕ) → suc l ≤ D → (at end i v q m : ℕ) → end ≤ length img → recordOf (suc l) img at end due.Init i v ≡ Sound q m
+      → Named img at (nameIn img at) × Good img at (after img at) v m (exprAt D img (second img at))
   unfolding startOf pick classOf classes dueAt partOf partsOf records
   init-step D g at end i v q m h e =
       let w = stands l img at end due.Init i v q m h e in
       let k : kindAt img at ≡ 20 = omega (arith, w .low, w .high) in
       let r = of-kind l img at end due.Init i v m 20 k w in
       let f : after img at ≤ length img = omega (arith, w .within) in
-      let a = part-due l img (after img at) due.Init 20 0 (inside img at) (varsIn due.Init 20 v) m refl r in
-      let x = leaf l img (inside img at) (after img at) due.Name 0 (varsIn due.Init 20 v) _ _ f refl (λ from to. (refl, refl)) (a .sound) in
+      let (a, x, o, short) = name-part l img (after img at) due.Init 20 0 (inside img at) (varsIn due.Init 20 v) m f refl r in
       let b = part-due l img (after img at) due.Init 20 1 (second img at) (a .counted) m refl (a .next) in
       let y = L .expr D (omega arith) (second img at) (after img at) due.Expression 1 (a .counted) _ (b .counted) f refl refl (b .sound) in
-      let z = no-part l img (after img at) due.Init 20 2 _ (b .counted) m refl (b .next) in
-      record { small = omega (arith, w .payload, x .0, y .small, b .within); whole = y .whole; count = omega (arith, x .1, y .count, z .1, vars-grow due.Init 20 v refl); marks = λ C Γ. sparse-in (omega (arith, w .payload, x .0)) (b .within) (y .marks C Γ) }
+      let z = no-part l img (after img at) due.Init 20 2 _ (b .counted) m refl (b .next) in (
+        record { here = omega (arith, w .own, f); short = short; own = refl },
+        record { small = omega (arith, w .payload, x, y .small, b .within); whole = y .whole; count = omega (arith, o, y .count, z .1, vars-grow due.Init 20 v refl); marks = λ C Γ. sparse-in (omega (arith, w .payload, x)) (b .within) (y .marks C Γ) },
+      )
 
   -- An expression as a part, and what stands behind it.
   pub expr-part : (D : ℕ) → l ≤ D → (end d k j p n m : ℕ) → end ≤ length img → dueAt d k j ≡ due.Expression → Run l img end d k j p n m
@@ -203,35 +206,35 @@ module _ (l : ℕ) (img : List ℕ) (L : Level img l) where
     by-kind k e eInt =
         let r = of-kind l img at end d i v m 64 e w in
         let z = no-part l img (after img at) d 64 0 (after img at) (varsIn d 64 v) m refl r in
-        record { small = omega (arith, w .own); whole = tt; count = omega (arith, z .1, vars-grow d 64 v refl); marks = λ C Γ. sparse-none img at (after img at) }
+        record { small = omega (arith, w .own); whole = omega (arith, w .own, w .within); count = omega (arith, z .1, vars-grow d 64 v refl); marks = λ C Γ. sparse-none img at (after img at) }
     by-kind k e eIdent =
         let f : after img at ≤ length img = omega (arith, w .within) in
         let r = of-kind l img at end d i v m 65 e w in
-        let (a, x, y) = name-part l img (after img at) d 65 0 (inside img at) (varsIn d 65 v) m f refl r in
+        let (a, x, y, short) = name-part l img (after img at) d 65 0 (inside img at) (varsIn d 65 v) m f refl r in
         let z = no-part l img (after img at) d 65 1 (second img at) (a .counted) m refl (a .next) in
-        record { small = omega (arith, w .own); whole = tt; count = omega (arith, y, z .1, vars-grow d 65 v refl); marks = λ C Γ. sparse-none img at (after img at) }
+        record { small = omega (arith, w .own); whole = record { here = omega (arith, w .own, f); short = short; own = refl }; count = omega (arith, y, z .1, vars-grow d 65 v refl); marks = λ C Γ. sparse-none img at (after img at) }
     by-kind k e eStorage =
         let f : after img at ≤ length img = omega (arith, w .within) in
         let r = of-kind l img at end d i v m 66 e w in
-        let (a, x, y) = name-part l img (after img at) d 66 0 (inside img at) (varsIn d 66 v) m f refl r in
+        let (a, x, y, short) = name-part l img (after img at) d 66 0 (inside img at) (varsIn d 66 v) m f refl r in
         let z = no-part l img (after img at) d 66 1 (second img at) (a .counted) m refl (a .next) in
-        record { small = omega (arith, w .own); whole = tt; count = omega (arith, y, z .1, vars-grow d 66 v refl); marks = λ C Γ. sparse-none img at (after img at) }
+        record { small = omega (arith, w .own); whole = record { here = omega (arith, w .own, f); short = short; own = refl }; count = omega (arith, y, z .1, vars-grow d 66 v refl); marks = λ C Γ. sparse-none img at (after img at) }
     by-kind k e eMapping =
         let f : after img at ≤ length img = omega (arith, w .within) in
         let r = of-kind l img at end d i v m 67 e w in
-        let (a, x, y) = name-part l img (after img at) d 67 0 (inside img at) (varsIn d 67 v) m f refl r in
+        let (a, x, y, short) = name-part l img (after img at) d 67 0 (inside img at) (varsIn d 67 v) m f refl r in
         let (b, t) = expr-part D g (after img at) d 67 1 (second img at) (a .counted) m f refl (a .next) in
         let z = no-part l img (after img at) d 67 2 (third img at) (b .counted) m refl (b .next) in
-        record { small = omega (arith, w .payload, x, t .small, b .within); whole = t .whole; count = omega (arith, y, t .count, z .1, vars-grow d 67 v refl); marks = λ C Γ. sparse-in (omega (arith, w .payload, x)) (b .within) (t .marks C Γ) }
+        record { small = omega (arith, w .payload, x, t .small, b .within); whole = (record { here = omega (arith, w .own, f); short = short; own = refl }, t .whole); count = omega (arith, y, t .count, z .1, vars-grow d 67 v refl); marks = λ C Γ. sparse-in (omega (arith, w .payload, x)) (b .within) (t .marks C Γ) }
     by-kind k e eAccess =
         let f : after img at ≤ length img = omega (arith, w .within) in
         let r = of-kind l img at end d i v m 68 e w in
         let (b, t) = expr-part D g (after img at) d 68 0 (inside img at) (varsIn d 68 v) m f refl r in
-        let (a, x, y) = name-part l img (after img at) d 68 1 (second img at) (b .counted) m f refl (b .next) in
+        let (a, x, y, short) = name-part l img (after img at) d 68 1 (second img at) (b .counted) m f refl (b .next) in
         let z = no-part l img (after img at) d 68 2 (third img at) (a .counted) m refl (a .next) in
         record {
           small = omega (arith, w .payload, t .small, b .within);
-          whole = t .whole;
+          whole = (omega (arith, w .own, f), t .whole, short);
           count = omega (arith, y, t .count, z .1, vars-grow d 68 v refl);
           marks = λ C Γ. sparse-access img at (after img at) (ofExpr C (exprAt D img (inside img at)) Γ) (analysis.expr C (exprAt D img (inside img at)) Γ) (λ t. analysis.access C at t (nameAt img (second img at)))
               (λ t. t) (w .own) (sparse-in (omega (arith, w .payload)) (b .within) (t .marks C Γ));
@@ -239,11 +242,11 @@ module _ (l : ℕ) (img : List ℕ) (L : Level img l) where
     by-kind k e eLiteral =
         let f : after img at ≤ length img = omega (arith, w .within) in
         let r = of-kind l img at end d i v m 69 e w in
-        let (a, x, y) = name-part l img (after img at) d 69 0 (inside img at) (varsIn d 69 v) m f refl r in
+        let (a, x, y, short) = name-part l img (after img at) d 69 0 (inside img at) (varsIn d 69 v) m f refl r in
         let b = part-due l img (after img at) d 69 1 (second img at) (a .counted) m refl (a .next) in
         let (c, t) = L .inits D g (second img at) (after img at) 1 (a .counted) _ (b .counted) f (b .sound) in
         let z = no-part l img (after img at) d 69 2 (third img at) (b .counted) m refl (b .next) in
-        record { small = omega (arith, w .payload, x, t .small, b .within); whole = (c, t .whole); count = omega (arith, y, t .count, z .1, vars-grow d 69 v refl); marks = λ C Γ. sparse-in (omega (arith, w .payload, x)) (b .within) (t .marks C Γ) }
+        record { small = omega (arith, w .payload, x, t .small, b .within); whole = (record { here = omega (arith, w .own, f); short = short; own = refl }, c, t .whole); count = omega (arith, y, t .count, z .1, vars-grow d 69 v refl); marks = λ C Γ. sparse-in (omega (arith, w .payload, x)) (b .within) (t .marks C Γ) }
     by-kind k e eBinary =
         let f : after img at ≤ length img = omega (arith, w .within) in
         let r = of-kind l img at end d i v m 70 e w in
@@ -253,7 +256,7 @@ module _ (l : ℕ) (img : List ℕ) (L : Level img l) where
         let z = no-part l img (after img at) d 70 3 (after img (third img at)) (c .counted) m refl (c .next) in
         record {
           small = omega (arith, w .payload, t .small, x, u .small, c .within);
-          whole = (t .whole, u .whole);
+          whole = (omega (arith, w .own, f), t .whole, u .whole);
           count = omega (arith, t .count, y, u .count, z .1, vars-grow d 70 v refl);
           marks = λ C Γ. sparse-then {q = second img at} (omega (arith, w .payload, t .small)) (omega (arith, x, u .small, c .within))
               (sparse-in {d = second img at} (omega (arith, w .payload)) (omega arith) (t .marks C Γ)) (sparse-in (omega (arith, x)) (c .within) (u .marks C Γ));
@@ -261,11 +264,11 @@ module _ (l : ℕ) (img : List ℕ) (L : Level img l) where
     by-kind k e eCall =
         let f : after img at ≤ length img = omega (arith, w .within) in
         let r = of-kind l img at end d i v m 71 e w in
-        let (a, x, y) = name-part l img (after img at) d 71 0 (inside img at) (varsIn d 71 v) m f refl r in
+        let (a, x, y, short) = name-part l img (after img at) d 71 0 (inside img at) (varsIn d 71 v) m f refl r in
         let b = part-due l img (after img at) d 71 1 (second img at) (a .counted) m refl (a .next) in
         let (c, t) = L .exprs D g 64 (second img at) (after img at) due.Arguments 1 (a .counted) _ (b .counted) f refl refl refl refl (omega arith) (b .sound) in
         let z = no-part l img (after img at) d 71 2 (third img at) (b .counted) m refl (b .next) in
-        record { small = omega (arith, w .payload, x, t .small, b .within); whole = (c, t .whole); count = omega (arith, y, t .count, z .1, vars-grow d 71 v refl); marks = λ C Γ. sparse-in (omega (arith, w .payload, x)) (b .within) (t .marks C Γ) }
+        record { small = omega (arith, w .payload, x, t .small, b .within); whole = (record { here = omega (arith, w .own, f); short = short; own = refl }, c, t .whole); count = omega (arith, y, t .count, z .1, vars-grow d 71 v refl); marks = λ C Γ. sparse-in (omega (arith, w .payload, x)) (b .within) (t .marks C Γ) }
 
   expr-step : (D : ℕ) → suc l ≤ D → (at end d i v q m : ℕ) → end ≤ length img → classOf d .low ≡ 64 → classOf d .high ≡ 71
       → recordOf (suc l) img at end d i v ≡ Sound q m → Good img at (after img at) v m (exprAt D img at)

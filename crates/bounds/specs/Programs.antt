@@ -1,30 +1,29 @@
 -- What is known of every program that an image comes to: it is short, and each word of it has a number.
 -- Assumes nothing.
-use mathlib.Core.Path.{_≡_, refl, sym, subst}
+use mathlib.Core.Path.{_≡_, sym, subst}
 use mathlib.Core.List.{List, map}
 use Prim.Native.Nat.{ℕ, _+_, _≤_, _<_}
 use native.Mathlib.Omega.{arith}
 use lib.ListN.{length}
-use Rattle.rules.specs.declared.Seen.{Seen}
-use Rattle.rules.specs.declared.Seen.the-variants.{Sound, Fault}
+use Rattle.rules.specs.declared.Seen.the-variants.{Sound}
 use Rattle.rules.specs.Bytes.{Name}
 use Rattle.rules.specs.Tree.{Contract}
 use Rattle.rules.specs.Read.{contractAt}
-use Rattle.rules.specs.Refusal.{Refusal, ok, _>>=_}
-use Rattle.rules.specs.Analyse.{analyse}
-use Rattle.rules.specs.Ambiguous.{firstAmbiguous}
+use Rattle.rules.specs.Refusal.{ok}
 use Rattle.rules.specs.Check.{checkOf}
 use Rattle.rules.specs.Machine.{Word, Entry, At, read}
 use Rattle.rules.specs.Layout.{offset}
 use Rattle.rules.specs.Emit.{Rules}
 use Rattle.rules.specs.Link.{Built, Program, functions, generate}
-use Rattle.rules.specs.Build.{passed, clear, analysed, judged, program, wordsOf}
-use Rattle.bounds.specs.Answers.{All, from-ok, all-ok, all-bad, all-bind, all-next, all-map}
+use Rattle.rules.specs.Build.{judged, program, wordsOf}
+use Rattle.bounds.specs.Answers.{All, from-ok, all-bind, all-map}
 use Rattle.bounds.specs.Held.{Each}
 use Rattle.bounds.specs.Numbers.{Encodable, all-read-back}
 use Rattle.bounds.specs.Ranges.{Ranged, firsts-up, functions-fine, program-fine}
 use Rattle.bounds.specs.Cuts.{cut, offset-small}
 use Rattle.bounds.specs.Contracts.{nodes-few}
+use Rattle.bounds.specs.Said.{said-all}
+use Rattle.bounds.specs.Refused.{judged-plain}
 
 -- What is known of a program.
 pub record Bounded (P : Program) : Type 0 where
@@ -58,27 +57,9 @@ generated R h img q m e =
     all-map (program-fine R (contractAt img) h (cut img .storage) (offset-below img) (omega (arith, z)))
     (λ P g. record { short = omega (arith, z, g .long); encodable = g .encodable; read-back = all-read-back (P .words) (g .encodable) })
 
--- An image that is passed was checked.
-passed-is : (s : Seen) → All (λ (u : Unit {0}). (q : ℕ) × (m : ℕ) × (s ≡ Sound q m)) (passed s)
-unfolding passed
-passed-is (Sound q m) = all-ok tt (q, m, refl)
-passed-is (Fault n p) = all-bad (Refusal.fault n p)
-
--- An analysed contract is that of a checked image.
-pub analysed-is : (img : List ℕ) → All (λ (C : Contract). (C ≡ contractAt img) × (q : ℕ) × (m : ℕ) × (checkOf img ≡ Sound q m)) (analysed img)
-unfolding analysed
-analysed-is img =
-    all-bind (passed (checkOf img)) _ (passed-is (checkOf img)) (λ u c.
-    all-next (analyse (contractAt img)) _ (λ a. all-ok (contractAt img) (refl, c .0, c .1, c .2)))
-
--- And so is one that 30 lets pass.
-pub judged-is : (img : List ℕ) → All (λ (C : Contract). (C ≡ contractAt img) × (q : ℕ) × (m : ℕ) × (checkOf img ≡ Sound q m)) (judged img)
-unfolding judged
-judged-is img = all-bind (analysed img) _ (analysed-is img) (λ C c. all-next (clear (firstAmbiguous C)) _ (λ u. all-ok C c))
-
 -- Every program that an image comes to, for a target of 30 free registers at most.
 pub program-bounded : (R : Rules) → R .free ≤ 30 → (img : List ℕ) (P : Program) → program R img ≡ ok P → Bounded P
 unfolding program
 program-bounded R h img P e = from-ok (subst (All (λ (P : Program). Bounded P)) e
-    (all-bind (judged img) _ (judged-is img) (λ C c.
-    subst (λ (D : Contract). All (λ (P : Program). Bounded P) (generate R D)) (sym (c .0)) (generated R h img (c .1) (c .2) (c .3)))))
+    (all-bind (judged img) _ (said-all (judged-plain img)) (λ C c.
+    subst (λ (D : Contract). All (λ (P : Program). Bounded P) (generate R D)) (sym (c .is)) (generated R h img (c .end) (c .names) (c .sound)))))

@@ -9,7 +9,7 @@ use borrow.Author.Tests.{lt-ltb, le-ltb}
 use lib.Dec.{T, eqb}
 use lib.ListN.{length}
 use Rattle.rules.specs.declared.Seen.the-variants.{Sound}
-use Rattle.rules.specs.Bytes.{pick, kindAt, inside, after, _or_, _and_}
+use Rattle.rules.specs.Bytes.{pick, kindAt, inside, after, nameAt}
 use Rattle.rules.specs.Grammar as due
 use Rattle.rules.specs.Grammar.{classes, classOf, dueAt}
 use Rattle.rules.specs.Check.{counts, varsIn, startOf, recordOf}
@@ -70,6 +70,12 @@ leaf (suc left) img at end d i vars q m h a b e =
     let n = no-byte left img (after img at) d (kindAt img at) 0 _ _ m (omega (arith, c .0)) (w .parts) in
     (w .own, omega (arith, n, vars-grow d (kindAt img at) vars (c .1)))
 
+-- A sound Name is short.
+pub short : (left : ℕ) (img : List ℕ) (at end d i vars q m : ℕ) → end ≤ length img → classOf d .low ≡ 1 → classOf d .high ≡ 1 → recordOf left img at end d i vars ≡ Sound q m
+    → length (nameAt img at) ≤ 64
+short zero img at end d i vars q m h a b e = none-left img at end d i vars q m e
+short (suc left) img at end d i vars q m h a b e = let w = stands left img at end d i vars q m h e in w .named (omega (arith, w .low, w .high, a, b))
+
 leaf-part : (c left : ℕ) (img : List ℕ) (end d k j p n m : ℕ) → end ≤ length img → classOf c .low ≡ classOf c .high → Leaf (classOf c .low) → classOf c .must ≡ true
     → dueAt d k j ≡ c → Run left img end d k j p n m → (a : Part left img end d k j p n m) × (p + 6 ≤ after img p) × (n ≤ a .counted)
 leaf-part c left img end d k j p n m h x y t e r =
@@ -79,9 +85,11 @@ leaf-part c left img end d k j p n m h x y t e r =
 
 -- A Name as a part, and what stands behind it.
 pub name-part : (left : ℕ) (img : List ℕ) (end d k j p n m : ℕ) → end ≤ length img → dueAt d k j ≡ due.Name → Run left img end d k j p n m
-    → (a : Part left img end d k j p n m) × (p + 6 ≤ after img p) × (n ≤ a .counted)
+    → (a : Part left img end d k j p n m) × (p + 6 ≤ after img p) × (n ≤ a .counted) × (length (nameAt img p) ≤ 64)
 unfolding startOf pick classOf classes
-name-part left img end d k j p n m h = leaf-part due.Name left img end d k j p n m h refl (λ from to. (refl, refl)) refl
+name-part left img end d k j p n m h e r =
+    let (a, x, y) = leaf-part due.Name left img end d k j p n m h refl (λ from to. (refl, refl)) refl e r in
+    (a, x, y, short left img p end due.Name j n (after img p) (a .counted) h refl refl (subst (λ z. recordOf left img p end z j n ≡ Sound (after img p) (a .counted)) e (a .sound)))
 
 -- A Flag.
 pub flag-part : (left : ℕ) (img : List ℕ) (end d k j p n m : ℕ) → end ≤ length img → dueAt d k j ≡ due.Flag → Run left img end d k j p n m

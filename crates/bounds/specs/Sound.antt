@@ -5,15 +5,16 @@ use mathlib.Core.Path.{_≡_, refl, sym, subst}
 use mathlib.Core.Bool.{Bool, true, false, not}
 use mathlib.Core.List.{List}
 use Prim.Native.Nat.{ℕ, zero, suc, _+_, _-_, _≤_, _<_}
+use native.Mathlib.Nat.{min-le-left}
 use native.Mathlib.Omega.{arith}
 use borrow.Author.Tests.{ltb-false, leb-false, eqb-true}
 use lib.Dec.{T, ltb, leb, eqb}
-use lib.ListN.{length}
+use lib.ListN.{length, drop, length-take}
 use Rattle.rules.specs.declared.Seen.{Seen}
 use Rattle.rules.specs.declared.Seen.the-variants.{Sound, Fault}
-use Rattle.rules.specs.Bytes.{pick, le32, kindAt, endAt, inside, after, _or_, _and_}
+use Rattle.rules.specs.Bytes.{pick, le32, kindAt, endAt, nameFrom, inside, after, nameAt, _or_, _and_}
 use Rattle.rules.specs.Grammar.{classOf, dueAt}
-use Rattle.rules.specs.Check.{unframed, undue, counts, crowded, headerOf, refusalOf, varsIn, startOf, ended, andThen, childrenOf, recordBy, recordOf}
+use Rattle.rules.specs.Check.{unframed, undue, counts, crowded, ownOf, headerOf, refusalOf, varsIn, startOf, ended, andThen, childrenOf, recordBy, recordOf}
 use Rattle.rules.specs.Joined.{found}
 
 -- The parts from the i-th on, the first of them at p, of a record of kind k that ends at `end`, where d was due: each is sound and the next
@@ -32,6 +33,7 @@ pub record Stands (left : ℕ) (img : List ℕ) (at end d i vars m : ℕ) : Type
   pub high : kindAt img at ≤ classOf d .high
   pub room : i < classOf d .most
   pub few : counts d (kindAt img at) ≡ true → vars < 512
+  pub named : kindAt img at ≡ 1 → length (nameAt img at) ≤ 64
   pub parts : Run left img (after img at) d (kindAt img at) 0 (startOf (kindAt img at) (inside img at) (after img at)) (varsIn d (kindAt img at) vars) m
 
 -- A fault is not sound.
@@ -64,10 +66,21 @@ record Header (img : List ℕ) (at end d i vars left : ℕ) : Type 0 where
   high : kindAt img at ≤ classOf d .high
   room : i < classOf d .most
   few : counts d (kindAt img at) ≡ true → vars < 512
+  named : kindAt img at ≡ 1 → endAt img at - (at + 6) ≤ 64
 
 under : (a b : Bool) → (a and b) ≡ false → a ≡ true → b ≡ false
 under true b e f = e
 under false b e f = absurd (subst T (sym f) tt)
+
+-- A Name has 64 bytes at most.
+short : (img : List ℕ) (from to : ℕ) → not (ownOf img from to 1) ≡ false → to - from ≤ 64
+unfolding ownOf pick
+short img from to e = by (eqb (to - from) 0) (ltb 64 (to - from)) (nameFrom img from (to - from)) refl e
+  where
+    by : (a b c : Bool) → ltb 64 (to - from) ≡ b → not (pick (a or b) false c) ≡ false → to - from ≤ 64
+    by true b c f g = absurd (subst T g tt)
+    by false true c f g = absurd (subst T g tt)
+    by false false c f g = ltb-false 64 (to - from) f
 
 -- From the check's first tests.
 header : (img : List ℕ) (at end left d i vars : ℕ) → refusalOf (headerOf img at end left d i vars) ≡ 0 → Header img at end d i vars left
@@ -77,6 +90,7 @@ header img at end left d i vars e =
     let b = first (eqb left 0) 5 _ (a .1) in
     let c = first (undue d (kindAt img at)) 2 _ (b .1) in
     let f = first (crowded d (kindAt img at) i vars) 6 _ (c .1) in
+    let n = first (not (ownOf img (at + 6) (endAt img at) (kindAt img at))) 4 _ (f .1) in
     let u = or-false (ltb (kindAt img at) (classOf d .low)) _ (c .0) in
     let r = or-false (leb (classOf d .most) i) _ (f .0) in
     let o = or-false (ltb (end - at) 6) _ (a .0) in
@@ -88,6 +102,7 @@ header img at end left d i vars e =
       high = ltb-false _ _ (u .1);
       room = leb-false _ _ (r .0);
       few = λ t. leb-false 512 vars (under (counts d (kindAt img at)) _ (r .1) t);
+      named = λ k. short img (at + 6) (endAt img at) (subst (λ z. not (ownOf img (at + 6) (endAt img at) z) ≡ false) k (n .0));
     }
 
 -- The children are looked at only behind a header that is not refused.
@@ -130,7 +145,7 @@ none-left img at end d i vars q m e =
 
 -- What a sound record with a level left is.
 pub stands : (left : ℕ) (img : List ℕ) (at end d i vars q m : ℕ) → end ≤ length img → recordOf (suc left) img at end d i vars ≡ Sound q m → Stands left img at end d i vars m
-unfolding recordOf recordBy inside after
+unfolding recordOf recordBy inside after nameAt
 stands left img at end d i vars q m h e =
     let c = chosen (eqb (refusalOf (headerOf img at end (suc left) d i vars)) 0) _ _ at q m e in
     let o = header img at end (suc left) d i vars (eqb-true _ 0 (c .0)) in
@@ -146,6 +161,7 @@ stands left img at end d i vars q m h e =
       high = o .high;
       room = o .room;
       few = o .few;
+      named = λ k. omega (arith, o .named k, n, w .payload, length-take (after img at - inside img at) (drop (inside img at) img), min-le-left (after img at - inside img at) (length (drop (inside img at) img)));
       parts = subst (λ z. Run left img z d (kindAt img at) 0 (startOf (kindAt img at) (inside img at) z) (varsIn d (kindAt img at) vars) m) n
           (subst (λ z. Run left img (endAt img at) d (kindAt img at) 0 (startOf (kindAt img at) z (endAt img at)) (varsIn d (kindAt img at) vars) m) (sym (w .payload)) r);
     }

@@ -162,12 +162,12 @@ module _ (l : ℕ) (img : List ℕ) (L : Level img l) where
   unfolding stmtKindOf stmtAs dueAt partOf partsOf statements pick classOf classes nodes-stmt Whole-stmt vars ofStmt
   return-part D g E at v m h o (no-more e x c) =
       subst (λ (b : Bool). Good-stmt img at (after img at) v m (when b (λ _. Stmt.return at (exprAt D img (inside img at))) (Stmt.return-none at))) (sym (le-ltb (inside img at) (after img at) (omega arith)))
-      (record { small = omega arith; whole = tt; count = omega arith; marks = λ C ret Γ. sparse-none img at (after img at) })
+      (record { small = omega arith; whole = omega arith; count = omega arith; marks = λ C ret Γ. sparse-none img at (after img at) })
   return-part D g E at v m h o (one-more c s z f e r) =
       let t = E .expr D g (inside img at) (after img at) due.Returned 0 v (after img (inside img at)) c h refl refl e in
       let y = no-part l img (after img at) due.Statement 40 1 (second img at) c m refl r in
       subst (λ (b : Bool). Good-stmt img at (after img at) v m (when b (λ _. Stmt.return at (exprAt D img (inside img at))) (Stmt.return-none at))) (sym (lt-ltb (inside img at) (after img at) s))
-      (record { small = omega (arith, t .small); whole = t .whole; count = omega (arith, t .count, y .1); marks = λ C ret Γ. sparse-in (omega arith) f (t .marks C Γ) })
+      (record { small = omega (arith, t .small); whole = (omega (arith, t .small), t .whole); count = omega (arith, t .count, y .1); marks = λ C ret Γ. sparse-in (omega arith) f (t .marks C Γ) })
 
   -- A statement, by its kind.
   module _ (E : exprs.Level img l) (D : ℕ) (g : l ≤ D) (at end i v m : ℕ) (h : end ≤ length img) (w : Stands l img at end due.Statement i v m) where
@@ -176,40 +176,40 @@ module _ (l : ℕ) (img : List ℕ) (L : Level img l) where
     by-kind k e eLet =
         let f : after img at ≤ length img = omega (arith, w .within) in
         let r = of-kind l img at end due.Statement i v m 32 e w in
-        let (a, x, y) = name-part l img (after img at) due.Statement 32 0 (inside img at) (v + 1) m f refl r in
+        let (a, x, y, short) = name-part l img (after img at) due.Statement 32 0 (inside img at) (v + 1) m f refl r in
         let (b, t) = expr-part l img E D g (after img at) due.Statement 32 1 (second img at) (a .counted) m f refl (a .next) in
         let z = no-part l img (after img at) due.Statement 32 2 (third img at) (b .counted) m refl (b .next) in
-        record { small = omega (arith, w .payload, x, t .small, b .within); whole = t .whole; count = omega (arith, y, t .count, z .1); marks = λ C ret Γ. sparse-in (omega (arith, w .payload, x)) (b .within) (t .marks C Γ) }
+        record { small = omega (arith, w .payload, x, t .small, b .within); whole = (record { here = omega (arith, w .own, f); short = short; own = refl }, t .whole); count = omega (arith, y, t .count, z .1); marks = λ C ret Γ. sparse-in (omega (arith, w .payload, x)) (b .within) (t .marks C Γ) }
     by-kind k e eConstrain =
         let f : after img at ≤ length img = omega (arith, w .within) in
         let r = of-kind l img at end due.Statement i v m 33 e w in
         let (b, t) = expr-part l img E D g (after img at) due.Statement 33 0 (inside img at) v m f refl r in
         let z = no-part l img (after img at) due.Statement 33 1 (second img at) (b .counted) m refl (b .next) in
-        record { small = omega (arith, w .payload, t .small, b .within); whole = t .whole; count = omega (arith, t .count, z .1); marks = λ C ret Γ. sparse-in (omega (arith, w .payload)) (b .within) (t .marks C Γ) }
+        record { small = omega (arith, w .payload, t .small, b .within); whole = (omega (arith, w .own, f), t .whole); count = omega (arith, t .count, z .1); marks = λ C ret Γ. sparse-in (omega (arith, w .payload)) (b .within) (t .marks C Γ) }
     by-kind k e eAssign =
         let f : after img at ≤ length img = omega (arith, w .within) in
         let r = of-kind l img at end due.Statement i v m 34 e w in
-        let (a, x, y) = name-part l img (after img at) due.Statement 34 0 (inside img at) v m f refl r in
+        let (a, x, y, short) = name-part l img (after img at) due.Statement 34 0 (inside img at) v m f refl r in
         let (b, t) = expr-part l img E D g (after img at) due.Statement 34 1 (second img at) (a .counted) m f refl (a .next) in
         let z = no-part l img (after img at) due.Statement 34 2 (third img at) (b .counted) m refl (b .next) in
-        record { small = omega (arith, w .payload, x, t .small, b .within); whole = t .whole; count = omega (arith, y, t .count, z .1); marks = λ C ret Γ. sparse-in (omega (arith, w .payload, x)) (b .within) (t .marks C Γ) }
+        record { small = omega (arith, w .payload, x, t .small, b .within); whole = (record { here = omega (arith, w .own, f); short = short; own = refl }, t .whole); count = omega (arith, y, t .count, z .1); marks = λ C ret Γ. sparse-in (omega (arith, w .payload, x)) (b .within) (t .marks C Γ) }
     by-kind k e eStorage =
         let f : after img at ≤ length img = omega (arith, w .within) in
         let r = of-kind l img at end due.Statement i v m 35 e w in
-        let (a, x, y) = name-part l img (after img at) due.Statement 35 0 (inside img at) v m f refl r in
+        let (a, x, y, short) = name-part l img (after img at) due.Statement 35 0 (inside img at) v m f refl r in
         let (b, t) = expr-part l img E D g (after img at) due.Statement 35 1 (second img at) (a .counted) m f refl (a .next) in
         let z = no-part l img (after img at) due.Statement 35 2 (third img at) (b .counted) m refl (b .next) in
-        record { small = omega (arith, w .payload, x, t .small, b .within); whole = t .whole; count = omega (arith, y, t .count, z .1); marks = λ C ret Γ. sparse-in (omega (arith, w .payload, x)) (b .within) (t .marks C Γ) }
+        record { small = omega (arith, w .payload, x, t .small, b .within); whole = (record { here = omega (arith, w .own, f); short = short; own = refl }, t .whole); count = omega (arith, y, t .count, z .1); marks = λ C ret Γ. sparse-in (omega (arith, w .payload, x)) (b .within) (t .marks C Γ) }
     by-kind k e eMapping =
         let f : after img at ≤ length img = omega (arith, w .within) in
         let r = of-kind l img at end due.Statement i v m 36 e w in
-        let (a, x, y) = name-part l img (after img at) due.Statement 36 0 (inside img at) v m f refl r in
+        let (a, x, y, short) = name-part l img (after img at) due.Statement 36 0 (inside img at) v m f refl r in
         let (b, t) = expr-part l img E D g (after img at) due.Statement 36 1 (second img at) (a .counted) m f refl (a .next) in
         let (c, u) = expr-part l img E D g (after img at) due.Statement 36 2 (third img at) (b .counted) m f refl (b .next) in
         let z = no-part l img (after img at) due.Statement 36 3 (fourth img at) (c .counted) m refl (c .next) in
         record {
           small = omega (arith, w .payload, x, t .small, u .small, c .within);
-          whole = (t .whole, u .whole);
+          whole = (record { here = omega (arith, w .own, f); short = short; own = refl }, t .whole, u .whole);
           count = omega (arith, y, t .count, u .count, z .1);
           marks = λ C ret Γ. sparse-then {q = third img at} (omega (arith, w .payload, x, t .small)) (omega (arith, u .small, c .within))
               (sparse-in (omega (arith, w .payload, x)) (omega arith) (t .marks C Γ)) (sparse-in (omega arith) (c .within) (u .marks C Γ));
@@ -222,7 +222,7 @@ module _ (l : ℕ) (img : List ℕ) (L : Level img l) where
         let x = else-part D g (after img at) (third img at) (b .counted) m f (b .next) in
         record {
           small = omega (arith, w .payload, t .small, u .small, x .small);
-          whole = (t .whole, c, u .whole, x .complete, x .whole);
+          whole = (omega (arith, w .own, f), t .whole, c, u .whole, x .complete, x .whole);
           count = omega (arith, t .count, u .count, x .count);
           marks = λ C ret Γ. sparse-then {q = second img at} (omega (arith, w .payload, t .small)) (omega (arith, u .small, x .small)) (sparse-in (omega (arith, w .payload)) (omega arith) (t .marks C Γ))
               (sparse-then {q = third img at} (omega (arith, u .small)) (omega (arith, x .small)) (sparse-in (omega arith) (omega arith) (u .marks C ret Γ))
@@ -236,7 +236,7 @@ module _ (l : ℕ) (img : List ℕ) (L : Level img l) where
         let z = no-part l img (after img at) due.Statement 38 2 (third img at) (b .counted) m refl (b .next) in
         record {
           small = omega (arith, w .payload, t .small, u .small, b .within);
-          whole = (t .whole, c, u .whole);
+          whole = (omega (arith, w .own, f), t .whole, c, u .whole);
           count = omega (arith, t .count, u .count, z .1);
           marks = λ C ret Γ. sparse-then {q = second img at} (omega (arith, w .payload, t .small)) (omega (arith, u .small, b .within))
               (sparse-in (omega (arith, w .payload)) (omega arith) (t .marks C Γ)) (sparse-in (omega arith) (b .within) (u .marks C ret Γ));
@@ -244,14 +244,14 @@ module _ (l : ℕ) (img : List ℕ) (L : Level img l) where
     by-kind k e eFor =
         let f : after img at ≤ length img = omega (arith, w .within) in
         let r = of-kind l img at end due.Statement i v m 39 e w in
-        let (a, x, y) = name-part l img (after img at) due.Statement 39 0 (inside img at) (v + 1) m f refl r in
+        let (a, x, y, short) = name-part l img (after img at) due.Statement 39 0 (inside img at) (v + 1) m f refl r in
         let (b, t) = expr-part l img E D g (after img at) due.Statement 39 1 (second img at) (a .counted) m f refl (a .next) in
         let (c, u) = expr-part l img E D g (after img at) due.Statement 39 2 (third img at) (b .counted) m f refl (b .next) in
         let (o, p, s) = body-part D g (after img at) due.Statement 39 3 (fourth img at) (c .counted) m f refl (c .next) in
         let z = no-part l img (after img at) due.Statement 39 4 (fifth img at) (o .counted) m refl (o .next) in
         record {
           small = omega (arith, w .payload, x, t .small, u .small, s .small, o .within);
-          whole = (t .whole, u .whole, p, s .whole);
+          whole = (record { here = omega (arith, w .own, f); short = short; own = refl }, t .whole, u .whole, p, s .whole);
           count = omega (arith, y, t .count, u .count, s .count, z .1);
           marks = λ C ret Γ. sparse-then {q = third img at} (omega (arith, w .payload, x, t .small)) (omega (arith, u .small, s .small, o .within)) (sparse-in (omega (arith, w .payload, x)) (omega arith) (t .marks C Γ))
               (sparse-then {q = fourth img at} (omega (arith, u .small)) (omega (arith, s .small, o .within)) (u .marks C Γ) (sparse-in (omega arith) (o .within) (s .marks C ret (with-name _ Typ.u64 Γ))));
@@ -262,17 +262,17 @@ module _ (l : ℕ) (img : List ℕ) (L : Level img l) where
     by-kind k e eEmit =
         let f : after img at ≤ length img = omega (arith, w .within) in
         let r = of-kind l img at end due.Statement i v m 41 e w in
-        let (a, x, y) = name-part l img (after img at) due.Statement 41 0 (inside img at) v m f refl r in
+        let (a, x, y, short) = name-part l img (after img at) due.Statement 41 0 (inside img at) v m f refl r in
         let b = part-due l img (after img at) due.Statement 41 1 (second img at) (a .counted) m refl (a .next) in
         let (c, t) = E .exprs D g 65536 (second img at) (after img at) due.Emitted 1 (a .counted) _ (b .counted) f refl refl refl refl (omega arith) (b .sound) in
         let z = no-part l img (after img at) due.Statement 41 2 (third img at) (b .counted) m refl (b .next) in
-        record { small = omega (arith, w .payload, x, t .small, b .within); whole = (c, t .whole); count = omega (arith, y, t .count, z .1); marks = λ C ret Γ. sparse-in (omega (arith, w .payload, x)) (b .within) (t .marks C Γ) }
+        record { small = omega (arith, w .payload, x, t .small, b .within); whole = (omega (arith, w .own, f), c, t .whole); count = omega (arith, y, t .count, z .1); marks = λ C ret Γ. sparse-in (omega (arith, w .payload, x)) (b .within) (t .marks C Γ) }
     by-kind k e eExpr =
         let f : after img at ≤ length img = omega (arith, w .within) in
         let r = of-kind l img at end due.Statement i v m 42 e w in
         let (b, t) = expr-part l img E D g (after img at) due.Statement 42 0 (inside img at) v m f refl r in
         let z = no-part l img (after img at) due.Statement 42 1 (second img at) (b .counted) m refl (b .next) in
-        record { small = omega (arith, w .payload, t .small, b .within); whole = t .whole; count = omega (arith, t .count, z .1); marks = λ C ret Γ. sparse-in (omega (arith, w .payload)) (b .within) (t .marks C Γ) }
+        record { small = omega (arith, w .payload, t .small, b .within); whole = (omega (arith, w .own, f), t .whole); count = omega (arith, t .count, z .1); marks = λ C ret Γ. sparse-in (omega (arith, w .payload)) (b .within) (t .marks C Γ) }
 
   stmt-step : exprs.Level img l → (D : ℕ) → suc l ≤ D → (at end i v q m : ℕ) → end ≤ length img → recordOf (suc l) img at end due.Statement i v ≡ Sound q m → Good-stmt img at (after img at) v m (stmtAt D img at)
   unfolding stmtAt classOf classes

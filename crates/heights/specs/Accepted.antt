@@ -12,8 +12,8 @@ use Rattle.rules.specs.Refusal.{Refusal, Res, ok, _>>=_, unless, refused, numbe
 use Rattle.rules.specs.Emit.{Rules}
 use Rattle.rules.specs.Link.{Program}
 use Rattle.rules.specs.Build.{program, fits, listed, outcome, programAnswer, buildOf}
-use Rattle.bounds.specs.Told.{Told, told-ok, told-bad}
-use Rattle.bounds.specs.Refusals.{program-told}
+use Rattle.bounds.specs.Said.{Said, said-ok, said-bad, Any}
+use Rattle.bounds.specs.Refused.{Plain, program-plain}
 
 -- What acceptance says of the room.
 pub record Fitting (R : Rules) (img : List ℕ) (n t : ℕ) (P : Program) : Type 0 where
@@ -25,7 +25,7 @@ pub record Fitting (R : Rules) (img : List ℕ) (n t : ℕ) (P : Program) : Type
 pub accepted : (R : Rules) (img code table : List ℕ) → buildOf R img code table .refusal ≡ 0
     → (P : Program) × (outcome R img (length code) (length table) ≡ ok P) × Fitting R img (length code) (length table) P
 unfolding buildOf programAnswer outcome fits listed unless _>>=_ numberOf refused
-accepted R img code table z = by-program (program R img) refl (program-told R img) z
+accepted R img code table z = by-program (program R img) refl (program-plain R img) z
   where
     n : ℕ
     n = length code
@@ -43,7 +43,7 @@ accepted R img code table z = by-program (program R img) refl (program-told R im
     by-room P e true h z = absurd (omega (arith, z))
     by-room P e false h z = by-table P e (ltb-false _ _ h) (ltb (t / 3) (length (P .table))) refl z
 
-    by-program : (m : Res Program) → program R img ≡ m → Told m → programAnswer (m >>= λ P. fits n P >>= listed t) .refusal ≡ 0
+    by-program : (m : Res Program) → program R img ≡ m → Said Plain (Any Program) m → programAnswer (m >>= λ P. fits n P >>= listed t) .refusal ≡ 0
         → (P : Program) × ((m >>= λ P. fits n P >>= listed t) ≡ ok P) × Fitting R img n t P
-    by-program m e (told-ok P) z = let r = by-room P e (ltb n (length (P .words))) refl z in (P, r .0, r .1)
-    by-program m e (told-bad r h) z = absurd (omega (arith, h .0, z))
+    by-program m e (said-ok P u) z = let r = by-room P e (ltb n (length (P .words))) refl z in (P, r .0, r .1)
+    by-program m e (said-bad r h) z = absurd (omega (arith, h .some, z))

@@ -57,4 +57,4 @@ module _ (img s : List ℕ) (r : ℕ) (s' : List ℕ) (number : r ≡ hostOf rul
 
       by : (m : Res Program) → program rules img ≡ m → Rest (8 * (r / 2 ^ 32)) s s'
       by (ok P) e = room P e (ltb (length s / 8) (length (P .words))) refl
-      by (bad q) e = absurd (let n : a .refusal ≡ numberOf q = rw e refl in omega (arith, told .0, refusal-plain rules img q e .0, n, z))
+      by (bad q) e = absurd (let n : a .refusal ≡ numberOf q = rw e refl in omega (arith, told .0, refusal-plain rules img q e .some, n, z))

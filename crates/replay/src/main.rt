@@ -1,4 +1,4 @@
-// The stored answers of the Rust (docs/STORED.md) on standard input, held against build, build_entries and analyse: how many there are and how many differ.
+// The stored answers of the Rust (docs/STORED.md) on standard input, held against build, build_entries, analyse and text: how many there are and how many differ.
 ghost use Prim.Native.Nat.{_≤_, _<_};
 use entries::Entry;
 use libc::STDIN_FILENO;
@@ -10,7 +10,10 @@ const WORD: u64 = 0xa5a5_a5a5_a5a5_a5a5;
 
 const NUMBER: u64 = 0x5a5a_5a5a_5a5a_5a5a;
 
-// What is stored of a case: the image's length, the rooms, and the answers.
+// What each byte lent for the text is before it is told.
+const BYTE: u8 = 0xa5;
+
+// What is stored of a case: the image's length, the rooms, the answers, and the text's length.
 struct Case {
     size: u64,
     room: u64,
@@ -22,6 +25,7 @@ struct Case {
     entries: u64,
     analysis: u64,
     analysed: u64,
+    text: u64,
 }
 
 // What build_entries leaves.
@@ -50,6 +54,7 @@ fn case_in(s: &[u8]) -> Case {
         entries: le64(s, 32),
         analysis: records::word32(s, 40),
         analysed: records::word32(s, 44),
+        text: records::word32(s, 48),
     }
 }
 
@@ -208,52 +213,96 @@ fn entered_roomed(case: Case, image: &[u8]) -> bool {
     entered(case, image, &mut code[..words], numbers)
 }
 
+// Whether text's refusal and place are the stored ones, or 0 and 0 where those are of room, which does not arise.
+fn refused(case: Case, a: Answer) -> bool {
+    let arises = case.refusal != 50 && case.refusal != 51;
+    let refusal = if arises { case.refusal } else { 0 };
+    let place = if arises { case.place } else { 0 };
+    if a.refusal != refusal {
+        return false;
+    }
+    a.place == place
+}
+
+// Whether the bytes are the stored text, and behind it what was lent.
+fn spelled(out: &[u8], stored: &[u8]) -> bool {
+    let mut i = 0;
+    while i < out.len() {
+        let byte = if i < stored.len() { stored[i] } else { BYTE };
+        if out[i] != byte {
+            return false;
+        }
+        i += 1;
+    }
+    true
+}
+
+// Whether text answers and leaves what is stored. A length over 256, whose text is not read whole, is never its count.
+fn told(case: Case, image: &[u8], stored: &[u8]) -> bool {
+    let mut out = [BYTE; 256];
+    let a = texts::text(image, &mut out);
+    if refused(case, a) {
+        if a.count != case.text {
+            return false;
+        }
+        spelled(&out, stored)
+    } else {
+        false
+    }
+}
+
 fn differs(same: bool) -> u64
     ensures { λ r. ⌜ r ≤ 1 ⌝ }
 {
     if same { 0 } else { 1 }
 }
 
-// How many of the three answers differ: build's, build_entries' and analyse's.
-fn differing(case: Case, image: &[u8]) -> u64
-    ensures { λ r. ⌜ r ≤ 3 ⌝ }
+// How many of the four answers differ: build's, build_entries', analyse's and text's.
+fn differing(case: Case, image: &[u8], stored: &[u8]) -> u64
+    ensures { λ r. ⌜ r ≤ 4 ⌝ }
 {
     let mut code = [WORD; 8192];
     let mut table = [NUMBER; 768];
     let numbers = differs(roomed(case, image, &mut code, &mut table));
     let structs = differs(entered_roomed(case, image));
-    numbers + structs + differs(analysed(case, image))
+    let analysis = differs(analysed(case, image));
+    numbers + structs + analysis + differs(told(case, image, stored))
 }
 
-// The image of a case is read, and its answers compared.
-fn read(case: Case, image: &mut [u8]) -> u64
-    ensures { λ r. ⌜ r ≤ 3 ⌝ }
+// The image and the text of a case are read, and its answers compared.
+fn read(case: Case, image: &mut [u8], stored: &mut [u8]) -> u64
+    ensures { λ r. ⌜ r ≤ 4 ⌝ }
 {
     if io::read_full(STDIN_FILENO, image) != image.len() {
-        return 3;
+        return 4;
     }
-    differing(case, image)
+    if io::read_full(STDIN_FILENO, stored) != stored.len() {
+        return 4;
+    }
+    differing(case, image, stored)
 }
 
-// The case whose stored numbers are `head`, with room for its image.
-fn judged(head: &[u8], room: &mut [u8]) -> u64
-    ensures { λ r. ⌜ r ≤ 3 ⌝ }
+// The case whose stored numbers are `head`, with room for its image and its text.
+fn judged(head: &[u8], image: &mut [u8], stored: &mut [u8]) -> u64
+    ensures { λ r. ⌜ r ≤ 4 ⌝ }
 {
     let case = case_in(head);
-    let n = least(case.size, room.len());
-    read(case, &mut room[..n])
+    let n = least(case.size, image.len());
+    let t = least(case.text, stored.len());
+    read(case, &mut image[..n], &mut stored[..t])
 }
 
 // The answers that differ in the next case.
 fn replayed() -> u64
-    ensures { λ r. ⌜ r ≤ 3 ⌝ }
+    ensures { λ r. ⌜ r ≤ 4 ⌝ }
 {
-    let mut head = [0u8; 48];
+    let mut head = [0u8; 52];
     let mut image = [0u8; 65537];
-    if io::read_full(STDIN_FILENO, &mut head) != 48 {
-        return 3;
+    let mut stored = [0u8; 256];
+    if io::read_full(STDIN_FILENO, &mut head) != 52 {
+        return 4;
     }
-    judged(&head, &mut image)
+    judged(&head, &mut image, &mut stored)
 }
 
 // A number of the header.

@@ -1,16 +1,15 @@
-//! Slices of poison with poison on both sides, the samples of document 01, the stored answers, and trees.
+//! Builds into slices of poison, the samples of document 01, the stored answers, and trees.
 #![allow(dead_code)] // no test uses all of it
 
 pub mod edges;
+mod guard;
 pub mod tree;
 
 pub use haspnettle::ast;
 
+use guard::{lent, POISON};
 use haspnettle::{build_into, Refusal};
 use std::path::PathBuf;
-
-pub const POISON: u8 = 0xA5;
-const GUARD: usize = 64;
 
 /// Number, place and count of a refusal.
 pub type Told = (u8, u32, u32);
@@ -21,11 +20,7 @@ pub fn told(r: Refusal) -> Told {
 
 /// Builds into `len` bytes of poison, and sees that nothing around them is touched.
 pub fn guarded(image: &[u8], len: usize) -> (Result<usize, Told>, Vec<u8>) {
-    let mut bytes = vec![POISON; len + 2 * GUARD];
-    let answer = build_into(image, &mut bytes[GUARD..GUARD + len]);
-    assert!(bytes[..GUARD].iter().all(|b| *b == POISON), "bytes before the slice were written");
-    assert!(bytes[GUARD + len..].iter().all(|b| *b == POISON), "bytes behind the slice were written");
-    (answer.map_err(told), bytes[GUARD..GUARD + len].to_vec())
+    lent(len, |out| build_into(image, out).map_err(told))
 }
 
 /// What the slice holds: the words and then poison, or zeros.
@@ -69,29 +64,32 @@ pub fn listed(name: &str) -> Result<Vec<u64>, Told> {
     Ok(words)
 }
 
-/// A stored answer of the Rust (docs/STORED.md): what was asked, the build's answer, and analyse's refusal and place.
+/// A stored answer of the Rust (docs/STORED.md): what was asked, the build's answer, analyse's refusal and place, and the Rust's text.
 pub struct Case {
     pub image: Vec<u8>,
     pub room: usize,
     pub built: Told,
     pub checksum: u64,
     pub analysed: (u8, u32),
+    pub text: Option<String>,
 }
 
 pub fn stored() -> Vec<Case> {
     let file = std::fs::read(repository().join("crates/replay/stdin")).unwrap();
     let number = |at: usize| u32::from_le_bytes(file[at..at + 4].try_into().unwrap());
-    assert_eq!(&file[..8], b"HASPANS1");
+    assert_eq!(&file[..8], b"HASPANS2");
     let (mut at, mut all) = (32, vec![]);
     // The wrong ones behind them are read too, and left out.
     for _ in 0..number(8) + number(28) {
-        let end = at + 48 + number(at) as usize;
+        let text = at + 52 + number(at) as usize;
+        let end = text + number(at + 48) as usize;
         all.push(Case {
-            image: file[at + 48..end].to_vec(),
+            image: file[at + 52..text].to_vec(),
             room: number(at + 4) as usize,
             built: (number(at + 12) as u8, number(at + 16), number(at + 20)),
             checksum: u64::from_le_bytes(file[at + 24..at + 32].try_into().unwrap()),
             analysed: (number(at + 40) as u8, number(at + 44)),
+            text: (text < end).then(|| String::from_utf8_lossy(&file[text..end]).into_owned()),
         });
         at = end;
     }

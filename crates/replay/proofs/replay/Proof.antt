@@ -6,7 +6,7 @@ use Rattle.replay.proofs.replay.Statement.{statement}
 use Rattle.replay.proofs.replay.Tie as tie
 
 abbrev Inv-loop : tie.InvT-loop
-Inv-loop cases differ₀ done₀ t4 t5 differ done = (done ≤ cases) × (differ ≤ 3 * done)
+Inv-loop cases differ₀ done₀ t4 t5 differ done = (done ≤ cases) × (differ ≤ 4 * done)
 
 abbrev μ-loop : tie.MeasureT-loop
 μ-loop cases differ₀ done₀ t4 t5 differ done = cases - done

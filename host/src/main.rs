@@ -1,0 +1,76 @@
+//! The program `haspnettle`: what the crate says of an image in a file.
+#![forbid(unsafe_code)]
+
+mod program {
+    pub mod asked;
+    pub mod files;
+}
+
+use haspnettle::{build_image, Refusal};
+use program::asked::{asked, Asked};
+use program::files::{read, write};
+use std::ffi::{OsStr, OsString};
+use std::fmt::Display;
+use std::io::Write;
+use std::process::ExitCode;
+use std::{env, io};
+
+/// What ends the program with another status than 0, and its line on standard error.
+struct Stop {
+    status: u8,
+    line: String,
+}
+
+impl Stop {
+    /// The arguments are wrong, or a file cannot be read or written.
+    fn failed(what: impl Display) -> Stop {
+        Stop { status: 2, line: format!("haspnettle: {what}\n") }
+    }
+}
+
+impl From<Refusal> for Stop {
+    fn from(r: Refusal) -> Stop {
+        let why = r.text().unwrap_or(r.meaning());
+        Stop { status: 1, line: format!("refused {} at {}: {why}\n", r.number, r.place) }
+    }
+}
+
+fn main() -> ExitCode {
+    match run(env::args_os().skip(1)) {
+        Ok(()) => ExitCode::SUCCESS,
+        Err(stop) => {
+            // Where nobody can be told, the status still stands.
+            _ = io::stderr().write_all(stop.line.as_bytes());
+            ExitCode::from(stop.status)
+        }
+    }
+}
+
+fn run(args: impl Iterator<Item = OsString>) -> Result<(), Stop> {
+    match asked(args)? {
+        Asked::Said(what) => write("-", what.as_bytes()),
+        Asked::Build { image, file } => build(&image, file.as_deref()),
+        Asked::Text { image } => text(&image),
+    }
+}
+
+fn build(image: &OsStr, file: Option<&OsStr>) -> Result<(), Stop> {
+    let words = build_image(&read(image)?)?;
+    match file {
+        None => write("-", listing(&words).as_bytes()),
+        Some(file) => write(file, &words.iter().flat_map(|w| w.to_le_bytes()).collect::<Vec<_>>()),
+    }
+}
+
+fn listing(words: &[u64]) -> String {
+    let lines = words.iter().enumerate().map(|(i, word)| format!("{i} {word:016x}\n"));
+    format!("words {}\n{}", words.len(), lines.collect::<String>())
+}
+
+fn text(image: &OsStr) -> Result<(), Stop> {
+    let Err(refusal) = build_image(&read(image)?) else { return Ok(()) };
+    if let Some(text) = refusal.text() {
+        write("-", format!("{text}\n").as_bytes())?;
+    }
+    Err(refusal.into())
+}

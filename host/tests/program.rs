@@ -1,0 +1,267 @@
+//! The program: what it prints, its line on standard error, its exit status, and the files that it leaves.
+mod common;
+
+use common::{listed, repository, sample, samples, tree::*, whole};
+use haspnettle::{build_image, image};
+use std::ffi::{OsStr, OsString};
+use std::fs::{self, File, Permissions};
+use std::io::Write;
+use std::os::unix::{ffi::OsStringExt, fs::symlink, fs::PermissionsExt};
+use std::path::{Path, PathBuf};
+use std::process::{Child, Command, Stdio};
+
+const LONG: &str = "refused 1 at 0: image over 65,536 bytes\n";
+const EMPTY: &str = "refused 2 at 0: a record is due and under 6 bytes are left, or its length is under 2 or passes its parent's end\n";
+const LOST: &str = "refused 10 at 78: SemanticError: Undefined identifier: x\n";
+
+// Exit status, standard output and standard error.
+type Ended = (i32, Vec<u8>, String);
+
+fn end(status: i32, out: impl AsRef<[u8]>, err: &str) -> Ended {
+    (status, out.as_ref().to_vec(), err.into())
+}
+
+// The program, under the runner that cargo has for it, if any.
+fn program<T: AsRef<OsStr>>(args: &[T]) -> Command {
+    let runner = std::env::var("CARGO_TARGET_X86_64_UNKNOWN_LINUX_GNU_RUNNER").unwrap_or_default();
+    let mut words = runner.split_whitespace().chain([env!("CARGO_BIN_EXE_haspnettle")]);
+    let mut command = Command::new(words.next().unwrap());
+    command.args(words).args(args).stdin(Stdio::null()).stdout(Stdio::piped()).stderr(Stdio::piped());
+    command
+}
+
+fn ended(child: Child) -> Ended {
+    let all = child.wait_with_output().unwrap();
+    (all.status.code().unwrap(), all.stdout, String::from_utf8(all.stderr).unwrap())
+}
+
+fn run(command: &mut Command) -> Ended {
+    ended(command.spawn().unwrap())
+}
+
+fn said(args: &[&str]) -> Ended {
+    run(&mut program(args))
+}
+
+// With these bytes on standard input; where nobody hears it, the other end of standard output is closed before.
+fn fed(args: &[&str], input: &[u8], heard: bool) -> Ended {
+    let mut child = program(args).stdin(Stdio::piped()).spawn().unwrap();
+    if !heard {
+        drop(child.stdout.take());
+    }
+    child.stdin.take().unwrap().write_all(input).unwrap();
+    ended(child)
+}
+
+// Refused, with a text.
+fn lost() -> Vec<u8> {
+    image(&main_of(vec![constrain(id("x"))])).unwrap()
+}
+
+fn at(sample: &str) -> String {
+    repository().join("samples").join(sample).into_os_string().into_string().unwrap()
+}
+
+// The words of C1, as -o leaves them.
+fn c1_bytes() -> Vec<u8> {
+    whole(&listed("c1"), 80)
+}
+
+// A test's own folder, with a file `there`, an image `lost` that is refused, and nothing else.
+fn folder(test: &str) -> PathBuf {
+    let path = Path::new(env!("CARGO_TARGET_TMPDIR")).join(test);
+    _ = fs::remove_dir_all(&path);
+    fs::create_dir_all(&path).unwrap();
+    fs::write(path.join("there"), "as it was").unwrap();
+    fs::write(path.join("lost"), lost()).unwrap();
+    path
+}
+
+fn within<T: AsRef<OsStr>>(folder: &Path, args: &[T]) -> Ended {
+    run(program(args).current_dir(folder))
+}
+
+fn names_in(folder: &Path) -> Vec<OsString> {
+    let mut names: Vec<_> = fs::read_dir(folder).unwrap().map(|f| f.unwrap().file_name()).collect();
+    names.sort();
+    names
+}
+
+#[test]
+fn every_sample_is_listed() {
+    for name in samples() {
+        // C3's listing is for nine words of room.
+        let says = if name == "c3" { "c1" } else { &name };
+        let due = match listed(says) {
+            Ok(_) => end(0, sample(&format!("{says}.listing")), ""),
+            Err((number, place, _)) => {
+                let refusal = build_image(&sample(&format!("{name}.img"))).unwrap_err();
+                end(1, "", &format!("refused {number} at {place}: {}\n", refusal.text().unwrap_or(refusal.meaning())))
+            }
+        };
+        assert_eq!(said(&["build", &at(&format!("{name}.img"))]), due, "{name}");
+    }
+}
+
+#[test]
+fn a_text_is_printed_where_there_is_one() {
+    assert_eq!(fed(&["text", "-"], &lost(), true), end(1, "SemanticError: Undefined identifier: x\n", LOST));
+    assert_eq!(fed(&["text", "-"], &[], true), end(1, "", EMPTY));
+    assert_eq!(said(&["text", &at("c4_28.img")]), end(1, "RegisterExhausted\n", "refused 41 at 31: RegisterExhausted\n"));
+    assert_eq!(said(&["text", &at("c1.img")]), end(0, "", ""));
+}
+
+#[test]
+fn standard_input_is_an_image() {
+    assert_eq!(fed(&["build", "-"], &sample("c1.img"), true), end(0, sample("c1.listing"), ""));
+    assert_eq!(fed(&["build", "-"], &lost(), true), end(1, "", LOST));
+    assert_eq!(fed(&["build", "-"], &[], true), end(1, "", EMPTY));
+}
+
+#[test]
+fn an_image_without_end_is_too_long() {
+    for command in ["build", "text"] {
+        assert_eq!(said(&[command, "/dev/zero"]), end(1, "", LONG));
+        assert_eq!(run(program(&[command, "-"]).stdin(File::open("/dev/zero").unwrap())), end(1, "", LONG));
+    }
+}
+
+#[test]
+fn words_go_into_a_file() {
+    let folder = folder("words");
+    fs::set_permissions(folder.join("there"), Permissions::from_mode(0o604)).unwrap();
+    symlink("there", folder.join("link")).unwrap();
+    assert_eq!(within(&folder, &["build", &at("c1.img"), "-o", "new"]), end(0, "", ""));
+    assert_eq!(within(&folder, &["build", "-o", "link", &at("c1.img")]), end(0, "", ""));
+    for name in ["new", "there", "link"] {
+        assert_eq!(fs::read(folder.join(name)).unwrap(), c1_bytes());
+    }
+    assert_eq!(fs::metadata(folder.join("there")).unwrap().permissions().mode() & 0o777, 0o604);
+    assert_eq!(fs::read_link(folder.join("link")).unwrap(), Path::new("there"));
+    assert_eq!(names_in(&folder), ["link", "lost", "new", "there"]);
+}
+
+#[test]
+fn words_go_into_what_is_no_file() {
+    assert_eq!(said(&["build", &at("c1.img"), "-o", "-"]), end(0, c1_bytes(), ""));
+    assert_eq!(said(&["build", &at("c1.img"), "-o", "/dev/stdout"]), end(0, c1_bytes(), ""));
+    assert_eq!(said(&["build", &at("c1.img"), "-o", "/dev/null"]), end(0, "", ""));
+    assert!(!fs::metadata("/dev/null").unwrap().is_file());
+}
+
+#[test]
+fn names_are_any_bytes() {
+    let folder = folder("bytes");
+    let [image, words] = [b"i\xFF\n", b"w\xFF\n"].map(|name| OsString::from_vec(name.to_vec()));
+    fs::write(folder.join(&image), sample("c1.img")).unwrap();
+    assert_eq!(within(&folder, &["build".as_ref(), image.as_os_str(), "-o".as_ref(), &words]), end(0, "", ""));
+    assert_eq!(fs::read(folder.join(&words)).unwrap(), c1_bytes());
+    fs::remove_file(folder.join(&image)).unwrap();
+    let line = "haspnettle: cannot read \"i\\xFF\\n\": No such file or directory (os error 2)\n";
+    assert_eq!(within(&folder, &["build".as_ref(), image.as_os_str()]), end(2, "", line));
+}
+
+#[test]
+fn a_refused_image_leaves_every_file() {
+    let folder = folder("refused");
+    for file in ["there", "new"] {
+        assert_eq!(within(&folder, &["build", "lost", "-o", file]), end(1, "", LOST));
+    }
+    assert_eq!(fs::read(folder.join("there")).unwrap(), b"as it was");
+    assert_eq!(names_in(&folder), ["lost", "there"]);
+}
+
+// No file may have a byte here, and who writes one is told so.
+#[test]
+fn a_failed_write_leaves_every_file() {
+    let folder = folder("failed");
+    for file in ["there", "new"] {
+        let plain = program(&["build", &at("c1.img"), "-o", file]);
+        let mut limited = Command::new("sh");
+        limited.args(["-c", "trap '' XFSZ; ulimit -f 0; exec \"$@\"", "sh"]).arg(plain.get_program()).args(plain.get_args());
+        limited.current_dir(&folder).stdout(Stdio::piped()).stderr(Stdio::piped());
+        let line = format!("haspnettle: cannot write {file:?}: File too large (os error 27)\n");
+        assert_eq!(run(&mut limited), end(2, "", &line));
+    }
+    assert_eq!(fs::read(folder.join("there")).unwrap(), b"as it was");
+    assert_eq!(names_in(&folder), ["lost", "there"]);
+}
+
+#[test]
+fn what_is_no_file_is_told() {
+    let folder = folder("no_file");
+    let c1 = &at("c1.img");
+    for (args, line) in [
+        (vec!["build", "none"], "cannot read \"none\": No such file or directory (os error 2)"),
+        (vec!["text", "none"], "cannot read \"none\": No such file or directory (os error 2)"),
+        (vec!["build", "."], "cannot read \".\": Is a directory (os error 21)"),
+        (vec!["build", c1, "-o", "none/new"], "cannot write \"none/new\": No such file or directory (os error 2)"),
+        (vec!["build", c1, "-o", "there/new"], "cannot write \"there/new\": Not a directory (os error 20)"),
+        (vec!["build", c1, "-o", "."], "cannot write \".\": Is a directory (os error 21)"),
+        (vec!["build", c1, "-o", ""], "cannot write \"\": No such file or directory (os error 2)"),
+        (vec!["build", c1, "-o", "/dev/full"], "cannot write \"/dev/full\": No space left on device (os error 28)"),
+    ] {
+        assert_eq!(within(&folder, &args), end(2, "", &format!("haspnettle: {line}\n")));
+    }
+    assert_eq!(names_in(&folder), ["lost", "there"]);
+    let line = "haspnettle: cannot read standard input: Is a directory (os error 21)\n";
+    assert_eq!(run(program(&["build", "-"]).stdin(File::open(folder).unwrap())), end(2, "", line));
+}
+
+#[test]
+fn a_closed_pipe_is_quiet() {
+    assert_eq!(fed(&["build", "-"], &sample("land_mask.img"), false), end(0, "", ""));
+    assert_eq!(fed(&["build", "-", "-o", "-"], &sample("land_mask.img"), false), end(0, "", ""));
+    assert_eq!(fed(&["text", "-"], &lost(), false), end(1, "", LOST));
+}
+
+#[test]
+fn a_full_device_is_told() {
+    let folder = folder("full");
+    let full = || File::create("/dev/full").unwrap();
+    let line = "haspnettle: cannot write standard output: No space left on device (os error 28)\n";
+    for args in [vec!["build", &at("c1.img")], vec!["build", &at("c1.img"), "-o", "-"], vec!["text", "lost"], vec!["--help"]] {
+        assert_eq!(run(program(&args).current_dir(&folder).stdout(full())), end(2, "", line));
+    }
+    // Nobody can be told, and the status stands.
+    assert_eq!(run(program(&["build", "lost"]).current_dir(&folder).stderr(full())), end(1, "", ""));
+}
+
+#[test]
+fn wrong_arguments_are_told() {
+    let (build, text) = ("haspnettle build IMAGE [-o FILE]", "haspnettle text IMAGE");
+    let both = &format!("{build}, or {text}")[..];
+    for (args, what, usage) in [
+        (vec![], "no command", both),
+        (vec!["list", "a"], "no command \"list\"", both),
+        (vec!["-o", "a"], "no command \"-o\"", both),
+        (vec!["build"], "no IMAGE", build),
+        (vec!["build", "-o", "a"], "no IMAGE", build),
+        (vec!["build", "a", "b"], "a second IMAGE, \"b\"", build),
+        (vec!["build", "a", "-"], "a second IMAGE, \"-\"", build),
+        (vec!["build", "a", "-x"], "unknown option \"-x\"", build),
+        (vec!["build", "--output", "a", "b"], "unknown option \"--output\"", build),
+        (vec!["build", "a", "-o"], "-o without FILE", build),
+        (vec!["build", "a", "-o", "b", "-o", "c"], "a second -o", build),
+        (vec!["text"], "no IMAGE", text),
+        (vec!["text", "a", "b"], "a second IMAGE, \"b\"", text),
+        (vec!["text", "a", "-o", "b"], "unknown option \"-o\"", text),
+    ] {
+        assert_eq!(said(&args), end(2, "", &format!("haspnettle: {what}; usage: {usage}\n")));
+    }
+}
+
+#[test]
+fn help_is_printed() {
+    let (build, text) = ("usage: haspnettle build IMAGE [-o FILE]\n", "usage: haspnettle text IMAGE\n");
+    for help in ["-h", "--help"] {
+        for (args, first) in
+            [(vec![help], build), (vec!["build", help], build), (vec!["build", "a", help], build), (vec!["text", help], text)]
+        {
+            let (status, out, err) = said(&args);
+            assert_eq!((status, &err[..]), (0, ""));
+            assert!(out.starts_with(first.as_bytes()) && out.ends_with(b"\n"));
+        }
+    }
+    assert_eq!(said(&["--version"]), end(0, concat!("haspnettle ", env!("CARGO_PKG_VERSION"), "\n"), ""));
+}
