@@ -4,10 +4,6 @@ use Rattle.texts.specs.Laws.{generated-fine, generated-told, told-room, 
 use borrow.Author.Needs.{needs}
 use Rattle.texts.proofs.generated_text.Statement.{statement}
 use Rattle.texts.proofs.generated_text.Tie as tie
-use Rattle.compiler.proofs.stages.generated.Reads as generated-reads
-use Rattle.compiler.proofs.stages.target.Reads as target-reads
-use Rattle.texts.proofs.told.Reads as told-reads
-use Rattle.wording.proofs.generation.Reads as generation-reads
 
 slice-aggregate-generated : tie.Need-slice-aggregate-generated
 slice-aggregate-generated c = search needs

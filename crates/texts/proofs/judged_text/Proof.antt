@@ -4,9 +4,6 @@ use Rattle.texts.specs.Laws.{tells-image, tells-ambiguous, tells-fine, t
 use borrow.Author.Needs.{needs}
 use Rattle.texts.proofs.judged_text.Statement.{statement}
 use Rattle.texts.proofs.judged_text.Tie as tie
-use Rattle.sema.proofs.front.answer_of.Reads as answer-of-reads
-use Rattle.texts.proofs.told.Reads as told-reads
-use Rattle.wording.proofs.fault.Reads as fault-reads
 
 answer-of-requires : tie.Need-answer-of-requires
 answer-of-requires c κs = search needs

@@ -7,9 +7,6 @@ use Rattle.texts.specs.Laws.{generate-room, judged-room, told-generated,
 use borrow.Author.Needs.{needs}
 use Rattle.texts.proofs.text.Statement.{statement}
 use Rattle.texts.proofs.text.Tie as tie
-use Rattle.sema.proofs.front.judge.Reads as judge-reads
-use Rattle.texts.proofs.generated_text.Reads as generated-text-reads
-use Rattle.texts.proofs.judged_text.Reads as judged-text-reads
 
 returns : tie.Need-returns
 returns c = short-answer (c .before .before .before .args .image .now) (c .before .before .before .args .out .now) (c .if1 .taken) refl

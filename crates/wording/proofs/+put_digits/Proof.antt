@@ -1,4 +1,4 @@
--- `wording::put_digits` meets its contract.
+-- `wording::put_digits` meets its contract: the last digit behind those before it.
 -- Assumes nothing.
 use native.Mathlib.Omega.{arith}
 use Rattle.wording.specs.Lays.{lays-none, lays-one, lays-more, length-one, length-more}

@@ -1,17 +1,10 @@
--- `wording::fault` meets its contract.
+-- `wording::fault` meets its contract: each arm is a line of the table.
 -- Assumes nothing.
 use Rattle.rules.specs.Texts.{bytes, textOf}
 use Rattle.lookup.specs.Answers.{faultOf}
 use borrow.Author.Needs.{needs}
 use Rattle.wording.proofs.fault.Statement.{statement}
 use Rattle.wording.proofs.fault.Tie as tie
-use Rattle.wording.proofs.arg_count.Reads as arg-count-reads
-use Rattle.wording.proofs.arg_type.Reads as arg-type-reads
-use Rattle.wording.proofs.init_type.Reads as init-type-reads
-use Rattle.wording.proofs.named.Reads as named-reads
-use Rattle.wording.proofs.no_field.Reads as no-field-reads
-use Rattle.wording.proofs.put.Reads as put-reads
-use Rattle.wording.proofs.types.Reads as types-reads
 
 enum-known-f : tie.Need-enum-known-f
 enum-known-f c = search needs

@@ -1,4 +1,4 @@
--- `wording::generation` meets its contract.
+-- `wording::generation` meets its contract: each arm is a line of the table.
 -- Assumes nothing.
 use Rattle.rules.specs.Texts.{bytes, textOf}
 use borrow.Author.Tests.{ne-eqb}
@@ -7,9 +7,6 @@ use Rattle.bounds.specs.Texts.{generatedAs}
 use borrow.Author.Needs.{needs}
 use Rattle.wording.proofs.generation.Statement.{statement}
 use Rattle.wording.proofs.generation.Tie as tie
-use Rattle.records.proofs.body.Reads as body-reads
-use Rattle.wording.proofs.named.Reads as named-reads
-use Rattle.wording.proofs.put.Reads as put-reads
 
 body-requires : tie.Need-body-requires
 body-requires c κs = search needs

@@ -1,4 +1,4 @@
--- `wording::init_type` meets its contract.
+-- `wording::init_type` meets its contract: one piece behind another.
 -- Assumes nothing.
 use native.Mathlib.Omega.{arith}
 use lib.ListN.{length-append}
@@ -8,8 +8,6 @@ use Rattle.wording.specs.Lays.{lays-then}
 use borrow.Author.Needs.{needs}
 use Rattle.wording.proofs.init_type.Statement.{statement}
 use Rattle.wording.proofs.init_type.Tie as tie
-use Rattle.wording.proofs.put.Reads as put-reads
-use Rattle.wording.proofs.put_name.Reads as put-name-reads
 
 slice-aggregate-put : tie.Need-slice-aggregate-put
 slice-aggregate-put c = search needs

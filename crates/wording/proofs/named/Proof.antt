@@ -1,4 +1,4 @@
--- `wording::named` meets its contract.
+-- `wording::named` meets its contract: one piece behind another.
 -- Assumes nothing.
 use native.Mathlib.Omega.{arith}
 use lib.ListN.{length-append}
@@ -7,8 +7,6 @@ use Rattle.wording.specs.Lays.{lays-then}
 use borrow.Author.Needs.{needs}
 use Rattle.wording.proofs.named.Statement.{statement}
 use Rattle.wording.proofs.named.Tie as tie
-use Rattle.wording.proofs.put.Reads as put-reads
-use Rattle.wording.proofs.put_name.Reads as put-name-reads
 
 put-requires : tie.Need-put-requires
 put-requires c κs = omega (arith, c .before .before .before .before .pre, length-append (c .before .before .before .before .args .s .now) (nameAt (c .before .before .before .before .args .img .now) (c .before .before .before .before .args .x)))

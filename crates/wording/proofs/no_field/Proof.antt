@@ -1,4 +1,4 @@
--- `wording::no_field` meets its contract.
+-- `wording::no_field` meets its contract: one piece behind another.
 -- Assumes nothing.
 use mathlib.Core.List.{_++_}
 use native.Mathlib.Omega.{arith}
@@ -9,8 +9,6 @@ use Rattle.wording.specs.Lays.{lays-then}
 use borrow.Author.Needs.{needs}
 use Rattle.wording.proofs.no_field.Statement.{statement}
 use Rattle.wording.proofs.no_field.Tie as tie
-use Rattle.wording.proofs.put.Reads as put-reads
-use Rattle.wording.proofs.put_name.Reads as put-name-reads
 
 slice-aggregate-put : tie.Need-slice-aggregate-put
 slice-aggregate-put c = search needs

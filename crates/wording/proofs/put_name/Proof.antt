@@ -6,8 +6,6 @@ use lib.ListN.{length}
 use borrow.Author.Needs.{needs}
 use Rattle.wording.proofs.put_name.Statement.{statement}
 use Rattle.wording.proofs.put_name.Tie as tie
-use Rattle.records.proofs.name.Reads as name-reads
-use Rattle.wording.proofs.put.Reads as put-reads
 
 name-requires : tie.Need-name-requires
 name-requires c κs = search needs

@@ -4,7 +4,6 @@ use Rattle.rules.specs.Texts.{decimal}
 use borrow.Author.Needs.{needs}
 use Rattle.wording.proofs.put_number.Statement.{statement}
 use Rattle.wording.proofs.put_number.Tie as tie
-use Rattle.wording.proofs.put_digits.Reads as put-digits-reads
 
 put-digits-requires : tie.Need-put-digits-requires
 unfolding decimal

@@ -1,4 +1,4 @@
--- `wording::put_struct` meets its contract.
+-- `wording::put_struct` meets its contract: one piece behind another.
 -- Assumes nothing.
 use native.Mathlib.Omega.{arith}
 use lib.ListN.{length-append}
@@ -8,8 +8,6 @@ use Rattle.wording.specs.Lays.{lays-then}
 use borrow.Author.Needs.{needs}
 use Rattle.wording.proofs.put_struct.Statement.{statement}
 use Rattle.wording.proofs.put_struct.Tie as tie
-use Rattle.wording.proofs.put.Reads as put-reads
-use Rattle.wording.proofs.put_name.Reads as put-name-reads
 
 slice-aggregate-put : tie.Need-slice-aggregate-put
 slice-aggregate-put c = search needs

@@ -1,12 +1,10 @@
--- `wording::put_type` meets its contract.
+-- `wording::put_type` meets its contract: each arm is a line of the table.
 -- Assumes nothing.
 use Rattle.rules.specs.Texts.{bytes, typeText}
 use Rattle.lookup.specs.Answers.{tyOf}
 use borrow.Author.Needs.{needs}
 use Rattle.wording.proofs.put_type.Statement.{statement}
 use Rattle.wording.proofs.put_type.Tie as tie
-use Rattle.wording.proofs.put.Reads as put-reads
-use Rattle.wording.proofs.put_struct.Reads as put-struct-reads
 
 enum-told : tie.Need-enum-told
 enum-told c = search needs

@@ -1,4 +1,4 @@
--- `wording::types` meets its contract.
+-- `wording::types` meets its contract: one piece behind another.
 -- Assumes nothing.
 use mathlib.Core.List.{_++_}
 use native.Mathlib.Omega.{arith}
@@ -9,8 +9,6 @@ use Rattle.wording.specs.Lays.{lays-then}
 use borrow.Author.Needs.{needs}
 use Rattle.wording.proofs.types.Statement.{statement}
 use Rattle.wording.proofs.types.Tie as tie
-use Rattle.wording.proofs.put.Reads as put-reads
-use Rattle.wording.proofs.put_type.Reads as put-type-reads
 
 put-requires : tie.Need-put-requires
 unfolding bytes
