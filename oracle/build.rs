@@ -47,7 +47,7 @@ fn error_type(text: &str) -> String {
 
 // The static libraries to compare, if a feature asks for one.
 fn link() {
-    let asked = ["CHECK", "BUILD", "HOST", "TEXT"].iter().any(|f| env::var_os(format!("CARGO_FEATURE_{f}")).is_some());
+    let asked = ["CHECK", "BUILD", "HOST", "TEXT", "WHY"].iter().any(|f| env::var_os(format!("CARGO_FEATURE_{f}")).is_some());
     if !asked {
         return;
     }

@@ -1,8 +1,8 @@
-//! The least stack, in KiB, on which the deepest trees of each kind are built, and on which their text is told. (`many` has more parameters
-//! than there are registers: the answer is 41.)
+//! The least stack, in KiB, on which the deepest trees of each kind are built, on which their text is told, and why each of their words is
+//! there. (`many` has more parameters than there are registers: the answer is 41.)
 //! Trees that end in a `lost` name are refused by analysis, so that theirs is the stack of analysis.
 use haspnettle::ast::{Contract, Expr, Stmt, Struct};
-use haspnettle::{ast, build_into, image, text, Unwritable};
+use haspnettle::{ast, build_into, image, text, why, Unwritable};
 use std::{env, process::Command, thread};
 use tree::*;
 
@@ -77,7 +77,8 @@ fn kinds() -> Vec<(&'static str, Contract)> {
 fn says(call: &str, img: &[u8]) -> String {
     match call {
         "build" => build_into(img, &mut vec![0; 8 * 65_536]).map_or_else(|r| r.to_string(), |n| format!("{n} words")),
-        _ => text(img).unwrap_or_default(),
+        "text" => text(img).unwrap_or_default(),
+        _ => format!("{} words", (0..).map_while(|index| why(img, index).ok()).count()),
     }
 }
 
@@ -104,7 +105,7 @@ fn main() {
         return;
     }
     for (kind, _) in kinds() {
-        let ((build, answer), (text, _)) = (least(kind, "build"), least(kind, "text"));
-        println!("{kind:14} build {build:4} KiB  text {text:4} KiB  {answer}");
+        let ((build, answer), (text, _), (why, _)) = (least(kind, "build"), least(kind, "text"), least(kind, "why"));
+        println!("{kind:14} build {build:4} KiB  text {text:4} KiB  why {why:4} KiB  {answer}");
     }
 }

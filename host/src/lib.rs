@@ -3,7 +3,8 @@
 //! The compiler behind this crate is written in Rattle and proved: for any bytes whatsoever the answer and every byte of the slice
 //! that is lent are those of its definition (`crates/rules/specs/Build.antt`, `hostOf` and `hostBytes`). It needs no heap, keeps no
 //! state and takes less than 96 KiB of stack, so it may be called from any number of threads at once. No function here panics.
-//! A refusal has the old Rust compiler's own text, where there is one ([`Refusal::text`]; `crates/rules/specs/Texts.antt`).
+//! A refusal has the old Rust compiler's own text, where there is one ([`Refusal::text`]; `crates/rules/specs/Texts.antt`), and a word
+//! the record that asked for it ([`why`]; `crates/rules/specs/Why.antt`).
 //!
 //! From a tree:
 //!
@@ -41,12 +42,14 @@ mod guard;
 mod image;
 #[allow(unsafe_code)]
 mod raw;
+mod record;
 mod refusal;
 #[cfg(test)]
 #[path = "../tests/common/tree.rs"]
 mod tree;
 
 pub use image::{image, Unwritable};
+pub use record::{record, Record};
 pub use refusal::Refusal;
 
 use refusal::Text;
@@ -105,7 +108,7 @@ impl Error for Failure {
 /// assert_eq!(out, [0; 13]);
 /// ```
 pub fn build_into(image: &[u8], out: &mut [u8]) -> Result<usize, Refusal> {
-    Refusal::unpack(raw::build(image, out), image)
+    Refusal::unpack(raw::build(image, out), image).map(|(_, count)| count as usize)
 }
 
 /// The words of an image.
@@ -164,6 +167,37 @@ pub fn analyse_contract(contract: &ast::Contract) -> Result<(), Failure> {
 /// ```
 pub fn text(image: &[u8]) -> Option<String> {
     Text::of(image).map(|text| text.as_str().into())
+}
+
+/// Why a word is there: which record asked for it, and where its offset comes from.
+#[derive(Debug, Clone, Copy, PartialEq, Eq, Hash)]
+#[non_exhaustive]
+pub struct Why {
+    /// Where in the image the innermost statement or expression stands whose own translation emitted the word, or the function, if it is a
+    /// word of its entry or exit; 0 for the first three words, which are the Contract's.
+    pub place: u32,
+    /// If the word was patched later, the index of the word that its offset leads to: a jump's target, or a called function's first word.
+    pub target: Option<u64>,
+}
+
+/// Why the word of an index is there, in the program of an image.
+///
+/// The build's refusals come first; 53 says that the program has no word of the index. [`record`] says what stands at the place.
+///
+/// ```
+/// # use haspnettle::ast::{Contract, Expr, Function, Stmt};
+/// # let body = vec![Stmt::If(Expr::Int(1), vec![], None)];
+/// # let main = Function { name: "main".into(), params: vec![], return_type: None, body, is_pub: false };
+/// # let contract = Contract { name: "c".into(), storage: vec![], structs: vec![], functions: vec![main] };
+/// let image = haspnettle::image(&contract).unwrap();
+/// let why = haspnettle::why(&image, 6).unwrap();
+/// assert_eq!((why.place, why.target), (72, Some(8)));
+/// assert_eq!(haspnettle::record(&image, why.place).unwrap().kind, "If");
+/// assert_eq!(haspnettle::why(&image, 13).unwrap_err().number, 53);
+/// ```
+pub fn why(image: &[u8], index: u64) -> Result<Why, Refusal> {
+    let (place, count) = Refusal::unpack(raw::why(image, index), image)?;
+    Ok(Why { place, target: count.checked_sub(1).map(u64::from) })
 }
 
 // What `build` leaves in a slice of so many words; where 50 tells that they are more, in one of just so many.

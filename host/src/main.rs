@@ -6,7 +6,7 @@ mod program {
     pub mod files;
 }
 
-use haspnettle::{build_image, Refusal};
+use haspnettle::{build_image, record, why, Refusal};
 use program::asked::{asked, Asked};
 use program::files::{read, write};
 use std::ffi::{OsStr, OsString};
@@ -51,6 +51,7 @@ fn run(args: impl Iterator<Item = OsString>) -> Result<(), Stop> {
         Asked::Said(what) => write("-", what.as_bytes()),
         Asked::Build { image, file } => build(&image, file.as_deref()),
         Asked::Text { image } => text(&image),
+        Asked::Why { image, index } => whys(&read(&image)?, index),
     }
 }
 
@@ -73,4 +74,22 @@ fn text(image: &OsStr) -> Result<(), Stop> {
         write("-", format!("{text}\n").as_bytes())?;
     }
     Err(refusal.into())
+}
+
+// Of one word, or of all.
+fn whys(image: &[u8], index: Option<u64>) -> Result<(), Stop> {
+    let lines = match index {
+        Some(index) => line(image, index),
+        None => (0..build_image(image)?.len() as u64).map(|index| line(image, index)).collect(),
+    };
+    write("-", lines?.as_bytes())
+}
+
+fn line(image: &[u8], index: u64) -> Result<String, Stop> {
+    let why = why(image, index)?;
+    // A record stands at the place, as the image is accepted, so the default is never taken.
+    let (kind, function) = record(image, why.place).map_or(("Record", None), |r| (r.kind, r.function));
+    let function = function.map_or(String::new(), |name| format!(" in {name}"));
+    let patched = why.target.map_or(String::new(), |target| format!(", patched, leads to {target}"));
+    Ok(format!("{index} {kind} at {}{function}{patched}\n", why.place))
 }

@@ -7,6 +7,8 @@ extern "C" {
     fn host_analyse(image: *const u8, image_len: usize) -> u64;
     /// `#[no_mangle] pub extern "C" fn host_text(image: &[u8], out: &mut [u8]) -> u64` of crate `host`.
     fn host_text(image: *const u8, image_len: usize, out: *mut u8, out_len: usize) -> u64;
+    /// `#[no_mangle] pub extern "C" fn host_why(image: &[u8], index: u64) -> u64` of crate `host`.
+    fn host_why(image: *const u8, image_len: usize, index: u64) -> u64;
 }
 
 /// Refusal + 256 x place + 2^32 x count.
@@ -28,6 +30,13 @@ pub fn text(image: &[u8], out: &mut [u8]) -> u64 {
     // SAFETY: as for `host_build`: two slices that are live and apart, and a function that keeps neither pointer, reads the one, writes
     // within the other, takes any bytes and any lengths, and does not unwind (its proof).
     unsafe { host_text(image.as_ptr(), image.len(), out.as_mut_ptr(), out.len()) }
+}
+
+/// Refusal + 256 x place + 2^32 x count; the count is 0 if the word was not patched, else 1 and the index of its target.
+pub fn why(image: &[u8], index: u64) -> u64 {
+    // SAFETY: as for `host_analyse`: a slice that is live, and a function that keeps no pointer, reads within the slice and writes nothing,
+    // takes any bytes, any length and any index, and does not unwind (its proof).
+    unsafe { host_why(image.as_ptr(), image.len(), index) }
 }
 
 #[cfg(test)]

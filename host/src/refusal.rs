@@ -2,10 +2,10 @@ use crate::raw;
 use std::error::Error;
 use std::{fmt, str};
 
-/// Why an image was not built.
+/// Why an image was not built, or a word of it not told of.
 ///
-/// The numbers are those of document 01, 'What comes back'. `place` is an offset in the image; `count` is 0 but for 50, where it is
-/// the number of words that the program has. It is shown as the Rust's own text, where there is one.
+/// The numbers are those of document 01, 'What comes back', and of document 02. `place` is an offset in the image; `count` is 0 but
+/// for 50, where it is the number of words that the program has. It is shown as the Rust's own text, where there is one.
 ///
 /// ```
 /// let refusal = haspnettle::build_image(&[]).unwrap_err();
@@ -25,13 +25,13 @@ pub struct Refusal {
 }
 
 impl Refusal {
-    /// The three numbers of the packed answer to `image`, and its text; none where it is an acceptance.
-    pub(crate) fn unpack(answer: u64, image: &[u8]) -> Result<usize, Refusal> {
+    /// Place and count of the packed answer to `image`, where it is an acceptance; else its three numbers, and its text.
+    pub(crate) fn unpack(answer: u64, image: &[u8]) -> Result<(u32, u32), Refusal> {
         let number = (answer & 0xFF) as u8;
         let place = (answer >> 8 & 0xFF_FFFF) as u32;
         let count = (answer >> 32) as u32;
         if number == 0 {
-            return Ok(count as usize);
+            return Ok((place, count));
         }
         // The others have none: it need not be asked for.
         let text = if matches!(number, 10..=22 | 40..=47) { Text::of(image) } else { None };
@@ -50,7 +50,7 @@ impl Refusal {
         self.text.as_ref().map(Text::as_str)
     }
 
-    /// What document 01 says of the number.
+    /// What the documents say of the number.
     pub fn meaning(&self) -> &'static str {
         match self.number {
             1 => "image over 65,536 bytes",
@@ -85,6 +85,7 @@ impl Refusal {
             50 => "code slice shorter than the program",
             51 => "function table shorter than the functions",
             52 => "text slice shorter than 256 bytes",
+            53 => "index not below the word count",
             _ => "unknown refusal",
         }
     }
@@ -97,7 +98,7 @@ impl fmt::Display for Refusal {
         }
         write!(f, "{} ({})", self.meaning(), self.number)?;
         match self.number {
-            1 | 52 => Ok(()),
+            1 | 52 | 53 => Ok(()),
             50 => write!(f, ", {} words needed", self.count),
             51 => write!(f, ", {} functions", self.count),
             _ => write!(f, ", at byte {}", self.place),
@@ -139,8 +140,8 @@ impl fmt::Debug for Text {
 mod tests {
     use super::Refusal;
 
-    const NUMBERS: [u8; 32] =
-        [1, 2, 3, 4, 5, 6, 7, 10, 11, 12, 13, 14, 15, 16, 17, 18, 19, 20, 21, 22, 30, 40, 41, 42, 43, 44, 45, 46, 47, 50, 51, 52];
+    const NUMBERS: [u8; 33] =
+        [1, 2, 3, 4, 5, 6, 7, 10, 11, 12, 13, 14, 15, 16, 17, 18, 19, 20, 21, 22, 30, 40, 41, 42, 43, 44, 45, 46, 47, 50, 51, 52, 53];
 
     fn bare(number: u8, place: u32, count: u32) -> Refusal {
         Refusal { number, place, count, text: None }
@@ -164,13 +165,15 @@ mod tests {
         assert_eq!(bare(50, 0, 10).to_string(), "code slice shorter than the program (50), 10 words needed");
         assert_eq!(bare(51, 0, 3).to_string(), "function table shorter than the functions (51), 3 functions");
         assert_eq!(bare(52, 0, 0).to_string(), "text slice shorter than 256 bytes (52)");
+        assert_eq!(bare(53, 0, 0).to_string(), "index not below the word count (53)");
         assert_eq!(bare(1, 0, 0).to_string(), "image over 65,536 bytes (1)");
     }
 
     #[test]
     fn every_answer_is_unpacked() {
-        assert_eq!(Refusal::unpack(0, &[]), Ok(0));
-        assert_eq!(Refusal::unpack(10 << 32, &[]), Ok(10));
+        assert_eq!(Refusal::unpack(0, &[]), Ok((0, 0)));
+        assert_eq!(Refusal::unpack(10 << 32, &[]), Ok((0, 10)));
+        assert_eq!(Refusal::unpack(u64::MAX - 255, &[]), Ok((0xFF_FFFF, u32::MAX)));
         assert_eq!(Refusal::unpack(46 + (0xABCDEF << 8), &[]), Err(bare(46, 0xABCDEF, 0)));
         assert_eq!(Refusal::unpack(u64::MAX, &[]), Err(bare(255, 0xFF_FFFF, u32::MAX)));
     }

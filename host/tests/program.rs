@@ -112,6 +112,39 @@ fn a_text_is_printed_where_there_is_one() {
 }
 
 #[test]
+fn a_word_is_told_of() {
+    for (index, line) in [
+        ("0", "0 Contract at 0\n"),
+        ("1", "1 Contract at 0, patched, leads to 3\n"),
+        ("3", "3 Function at 31 in main\n"),
+        ("5", "5 Int at 78 in main\n"),
+        ("6", "6 While at 72 in main, patched, leads to 8\n"),
+        ("8", "8 While at 72 in main\n"),
+        ("013", "13 Function at 31 in main\n"),
+    ] {
+        assert_eq!(said(&["why", &at("c7.img"), index]), end(0, line, ""));
+    }
+    for index in ["14", "4294967296", "18446744073709551615"] {
+        assert_eq!(said(&["why", &at("c7.img"), index]), end(1, "", "refused 53 at 0: index not below the word count\n"));
+    }
+    for index in ["0", "18446744073709551615", "--all"] {
+        assert_eq!(fed(&["why", "-", index], &lost(), true), end(1, "", LOST));
+        assert_eq!(fed(&["why", "-", index], &[], true), end(1, "", EMPTY));
+    }
+}
+
+#[test]
+fn every_word_is_told_of() {
+    let all = String::from_utf8(sample("land_mask.why")).unwrap();
+    assert_eq!(all.lines().count(), listed("land_mask").unwrap().len());
+    assert_eq!(said(&["why", &at("land_mask.img"), "--all"]), end(0, &all, ""));
+    assert_eq!(fed(&["why", "--all", "-"], &sample("land_mask.img"), true), end(0, &all, ""));
+    for (index, line) in all.lines().enumerate() {
+        assert_eq!(said(&["why", &at("land_mask.img"), &index.to_string()]), end(0, format!("{line}\n"), ""));
+    }
+}
+
+#[test]
 fn standard_input_is_an_image() {
     assert_eq!(fed(&["build", "-"], &sample("c1.img"), true), end(0, sample("c1.listing"), ""));
     assert_eq!(fed(&["build", "-"], &lost(), true), end(1, "", LOST));
@@ -120,9 +153,10 @@ fn standard_input_is_an_image() {
 
 #[test]
 fn an_image_without_end_is_too_long() {
-    for command in ["build", "text"] {
-        assert_eq!(said(&[command, "/dev/zero"]), end(1, "", LONG));
-        assert_eq!(run(program(&[command, "-"]).stdin(File::open("/dev/zero").unwrap())), end(1, "", LONG));
+    for (command, more) in [("build", None), ("text", None), ("why", Some("0")), ("why", Some("--all"))] {
+        let of = |image| [command, image].into_iter().chain(more).collect::<Vec<_>>();
+        assert_eq!(said(&of("/dev/zero")), end(1, "", LONG));
+        assert_eq!(run(program(&of("-")).stdin(File::open("/dev/zero").unwrap())), end(1, "", LONG));
     }
 }
 
@@ -194,6 +228,7 @@ fn what_is_no_file_is_told() {
     for (args, line) in [
         (vec!["build", "none"], "cannot read \"none\": No such file or directory (os error 2)"),
         (vec!["text", "none"], "cannot read \"none\": No such file or directory (os error 2)"),
+        (vec!["why", "none", "0"], "cannot read \"none\": No such file or directory (os error 2)"),
         (vec!["build", "."], "cannot read \".\": Is a directory (os error 21)"),
         (vec!["build", c1, "-o", "none/new"], "cannot write \"none/new\": No such file or directory (os error 2)"),
         (vec!["build", c1, "-o", "there/new"], "cannot write \"there/new\": Not a directory (os error 20)"),
@@ -213,6 +248,7 @@ fn a_closed_pipe_is_quiet() {
     assert_eq!(fed(&["build", "-"], &sample("land_mask.img"), false), end(0, "", ""));
     assert_eq!(fed(&["build", "-", "-o", "-"], &sample("land_mask.img"), false), end(0, "", ""));
     assert_eq!(fed(&["text", "-"], &lost(), false), end(1, "", LOST));
+    assert_eq!(fed(&["why", "-", "--all"], &sample("land_mask.img"), false), end(0, "", ""));
 }
 
 #[test]
@@ -220,7 +256,8 @@ fn a_full_device_is_told() {
     let folder = folder("full");
     let full = || File::create("/dev/full").unwrap();
     let line = "haspnettle: cannot write standard output: No space left on device (os error 28)\n";
-    for args in [vec!["build", &at("c1.img")], vec!["build", &at("c1.img"), "-o", "-"], vec!["text", "lost"], vec!["--help"]] {
+    let c1 = &at("c1.img");
+    for args in [vec!["build", c1], vec!["build", c1, "-o", "-"], vec!["text", "lost"], vec!["why", c1, "0"], vec!["--help"]] {
         assert_eq!(run(program(&args).current_dir(&folder).stdout(full())), end(2, "", line));
     }
     // Nobody can be told, and the status stands.
@@ -229,12 +266,12 @@ fn a_full_device_is_told() {
 
 #[test]
 fn wrong_arguments_are_told() {
-    let (build, text) = ("haspnettle build IMAGE [-o FILE]", "haspnettle text IMAGE");
-    let both = &format!("{build}, or {text}")[..];
+    let (build, text, why) = ("haspnettle build IMAGE [-o FILE]", "haspnettle text IMAGE", "haspnettle why IMAGE INDEX|--all");
+    let all = &format!("{build}, or {text}, or {why}")[..];
     for (args, what, usage) in [
-        (vec![], "no command", both),
-        (vec!["list", "a"], "no command \"list\"", both),
-        (vec!["-o", "a"], "no command \"-o\"", both),
+        (vec![], "no command", all),
+        (vec!["list", "a"], "no command \"list\"", all),
+        (vec!["-o", "a"], "no command \"-o\"", all),
         (vec!["build"], "no IMAGE", build),
         (vec!["build", "-o", "a"], "no IMAGE", build),
         (vec!["build", "a", "b"], "a second IMAGE, \"b\"", build),
@@ -246,6 +283,20 @@ fn wrong_arguments_are_told() {
         (vec!["text"], "no IMAGE", text),
         (vec!["text", "a", "b"], "a second IMAGE, \"b\"", text),
         (vec!["text", "a", "-o", "b"], "unknown option \"-o\"", text),
+        (vec!["text", "a", "--all"], "unknown option \"--all\"", text),
+        (vec!["why"], "no IMAGE", why),
+        (vec!["why", "--all"], "no IMAGE", why),
+        (vec!["why", "a"], "no INDEX", why),
+        (vec!["why", "a", "0", "1"], "a second INDEX, \"1\"", why),
+        (vec!["why", "a", "0", "--all"], "a second INDEX, \"--all\"", why),
+        (vec!["why", "--all", "a", "0"], "a second INDEX, \"0\"", why),
+        (vec!["why", "a", "-1"], "unknown option \"-1\"", why),
+        (vec!["why", "a", "0", "-o", "b"], "unknown option \"-o\"", why),
+        (vec!["why", "a", ""], "INDEX \"\" is no number below 2^64", why),
+        (vec!["why", "a", "-"], "INDEX \"-\" is no number below 2^64", why),
+        (vec!["why", "a", "0x6"], "INDEX \"0x6\" is no number below 2^64", why),
+        (vec!["why", "a", "6\n"], "INDEX \"6\\n\" is no number below 2^64", why),
+        (vec!["why", "a", "18446744073709551616"], "INDEX \"18446744073709551616\" is no number below 2^64", why),
     ] {
         assert_eq!(said(&args), end(2, "", &format!("haspnettle: {what}; usage: {usage}\n")));
     }
@@ -254,10 +305,16 @@ fn wrong_arguments_are_told() {
 #[test]
 fn help_is_printed() {
     let (build, text) = ("usage: haspnettle build IMAGE [-o FILE]\n", "usage: haspnettle text IMAGE\n");
+    let why = "usage: haspnettle why IMAGE INDEX|--all\n";
     for help in ["-h", "--help"] {
-        for (args, first) in
-            [(vec![help], build), (vec!["build", help], build), (vec!["build", "a", help], build), (vec!["text", help], text)]
-        {
+        for (args, first) in [
+            (vec![help], build),
+            (vec!["build", help], build),
+            (vec!["build", "a", help], build),
+            (vec!["text", help], text),
+            (vec!["why", help], why),
+            (vec!["why", "a", "b", help], why),
+        ] {
             let (status, out, err) = said(&args);
             assert_eq!((status, &err[..]), (0, ""));
             assert!(out.starts_with(first.as_bytes()) && out.ends_with(b"\n"));

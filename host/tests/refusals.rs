@@ -3,7 +3,7 @@ mod common;
 
 use common::ast::{Contract, Stmt};
 use common::{listed, sample, told, tree::*};
-use haspnettle::{analyse, analyse_contract, build, build_image, build_into, image, text, Failure, Refusal};
+use haspnettle::{analyse, analyse_contract, build, build_image, build_into, image, text, why, Failure, Refusal};
 use std::error::Error;
 
 fn refused(contract: &Contract) -> Refusal {
@@ -98,6 +98,7 @@ fn every_text_is_told_by_every_call() {
         assert!(format!("{refusal:?}").contains(&format!("text: Some({says:?})")));
         assert_eq!(build_image(&img), Err(refusal));
         assert_eq!(build_into(&img, &mut []), Err(refusal));
+        assert_eq!(why(&img, 0), Err(refusal));
         let analysed = if number < 30 { Err(refusal) } else { Ok(()) };
         assert_eq!(analyse(&img), analysed);
         assert_eq!(analyse_contract(&contract), analysed.map_err(Failure::from));
@@ -119,6 +120,8 @@ fn the_others_have_no_text() {
     assert_eq!(text(&sample("c1.img")), None);
     let short = build_into(&sample("c1.img"), &mut [0; 79]).unwrap_err();
     assert_eq!((told(short), short.text()), ((50, 0, 10), None));
+    let past = why(&sample("c1.img"), 10).unwrap_err();
+    assert_eq!((told(past), past.text()), ((53, 0, 0), None));
     for img in [&[][..], &[1, 2, 3], &[0; 65_537]] {
         assert_eq!((text(img), build_image(img).unwrap_err().text()), (None, None));
     }

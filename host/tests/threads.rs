@@ -3,7 +3,7 @@ mod common;
 
 use common::ast::{Contract, Stmt};
 use common::{edges::*, guarded, listed, sample, samples, told, tree::*, whole, Told};
-use haspnettle::{analyse, build_image, image, text};
+use haspnettle::{analyse, build_image, image, text, why};
 use std::thread;
 
 // An image, and its words or refusal.
@@ -69,6 +69,9 @@ fn holds((img, says): &Case) {
     let analysed = says.as_ref().err().filter(|r| r.0 < 30).map_or(Ok(()), |r| Err(*r));
     assert_eq!(analyse(img).map_err(told), analysed);
     assert_eq!(text(img).is_some(), says.as_ref().is_err_and(|r| matches!(r.0, 10..=22 | 40..=47)));
+    let words = says.as_ref().map_or(0, Vec::len) as u64;
+    assert!([0, words / 2, words.saturating_sub(1)].iter().all(|index| why(img, *index).is_ok() == says.is_ok()));
+    assert_eq!(why(img, words).map_err(told), Err(says.as_ref().err().copied().unwrap_or((53, 0, 0))));
 }
 
 #[test]

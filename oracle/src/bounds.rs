@@ -100,23 +100,6 @@ pub fn worse() -> Vec<Edge> {
     out
 }
 
-/// A contract with every construct.
-pub fn rich() -> Contract {
-    let all = vec![
-        let_("x", int(7)),
-        constrain(binary(id("x"), op_of(6), read("s"))),
-        assign("x", mapping("s", id("x"))),
-        write("s", access(literal("S", vec![("f", int(1))]), "f")),
-        map_write("s", int(1), int(2)),
-        if_(id("x"), vec![Stmt::Return(None)], Some(vec![does(call("f", vec![int(3)]))])),
-        if_(id("x"), vec![], None),
-        while_(int(0), vec![emit("e", vec![id("x"), int(1 << 40)])]),
-        for_("i", int(0), int(9), vec![does(call("poseidon", vec![id("i"), call("msg::sender", vec![])]))]),
-    ];
-    let f = function("f", vec![("p", "u64")], Some("u64"), vec![Stmt::Return(Some(id("p")))]);
-    contract(vec![field("s", "u64")], vec![structure("S", vec![("f", "u64")])], vec![f, function("main", vec![], None, all)])
-}
-
 // A second return type, and what else may stand in its List.
 fn returns() -> Vec<Edge> {
     let img = encode(&contract(vec![], vec![], vec![function("main", vec![], Some("u64"), vec![])]));
@@ -146,7 +129,9 @@ pub fn all() -> Vec<Edge> {
     out.extend(crate::tricks::all().into_iter().map(|img| ("a rule that is easy to lose", img)));
     out.extend(crate::meant::all().iter().map(|c| (c.what, c.image())));
     out.extend(crate::texts::all().iter().map(|c| ("a text", c.image())));
-    out.extend(crate::damage::every(&encode(&rich())).into_iter().map(|img| ("the contract of all constructs, changed", img)));
+    let every = encode(&crate::every::every());
+    out.extend(crate::damage::every(&every).into_iter().map(|img| ("the contract of all constructs, changed", img)));
+    out.push(("the contract of all constructs", every));
     out
 }
 

@@ -4,7 +4,7 @@ use crate::codegen::Codegen;
 use crate::generation::{generate, Program};
 use crate::model::{ambiguous, analysed, program, program_by_name, was_30, Refusal};
 use crate::sema::SemanticAnalyzer;
-use crate::{apart, ast::Contract, check, grammar, image, places, writer, CompileError};
+use crate::{apart, ast::Contract, check, grammar, image, marks, places, writer, CompileError};
 use std::fmt::Debug;
 
 /// The Rust's error as "Variant: text".
@@ -118,6 +118,7 @@ fn hold_words(img: &[u8], tree: &Contract, bases: &Bases) {
                 p.undecided.iter().for_each(|&i| words[i] = p.words[i]);
             }
             same(img, "words", &p.words, &words);
+            same(img, "why each word is there", Ok(&p.marks), marks::read(img, &words).as_ref());
         }
         (Ok(_), Err(text)) => disagree(img, "generation", "words", &text),
         (Err(r), Ok(_)) => disagree(img, "generation", &r.text, "words"),

@@ -1,6 +1,6 @@
 // A static library's entries (HASP_LIB, one cargo feature each) against the model, its texts against the Rust's own.
-use crate::model::{analysed, build, host, program, text, was_30, Answer, Refusal, TEXT_ROOM};
-use crate::{bounds, check, compare, generation::Program};
+use crate::model::{analysed, build, host, program, text, was_30, why, Answer, Refusal, TEXT_ROOM};
+use crate::{bounds, check, compare, generation::Program, store};
 
 /// What stands around and in the slices that are lent.
 const POISON: u64 = 0xA5A5_A5A5_A5A5_A5A5;
@@ -20,13 +20,16 @@ extern "C" {
     fn host_analyse(img: *const u8, len: usize) -> u64;
     #[cfg(feature = "text")]
     fn host_text(img: *const u8, len: usize, out: *mut u8, room: usize) -> u64;
+    #[cfg(feature = "why")]
+    fn host_why(img: *const u8, len: usize, index: u64) -> u64;
 }
 
 pub const CHECK: bool = cfg!(feature = "check");
 pub const BUILD: bool = cfg!(feature = "build");
 pub const HOST: bool = cfg!(feature = "host");
 const TEXT: bool = cfg!(feature = "text");
-const ANY: bool = CHECK || BUILD || HOST || TEXT;
+const WHY: bool = cfg!(feature = "why");
+const ANY: bool = CHECK || BUILD || HOST || TEXT || WHY;
 
 /// The library's check; 0 where it is not linked.
 pub fn lib_check(_img: &[u8]) -> u64 {
@@ -64,22 +67,52 @@ fn lib_text(_img: &[u8], _out: &mut [u8]) -> u64 {
     0
 }
 
-/// Compares what is linked over n seeds and every edge, on a thread with a stack of HASP_STACK bytes (2 MiB).
+fn lib_why(_img: &[u8], _index: u64) -> u64 {
+    #[cfg(feature = "why")]
+    return unsafe { host_why(_img.as_ptr(), _img.len(), _index) };
+    #[cfg(not(feature = "why"))]
+    0
+}
+
+/// Compares what is linked over n seeds and every edge.
 pub fn compare(n: u64, seed: u64, image: fn(u64) -> Vec<u8>) -> Result<(), String> {
     if !ANY {
-        return Err("no entry is linked: build with --features check,build,host,text and HASP_LIB".into());
+        return Err("no entry is linked: build with --features check,build,host,text,why and HASP_LIB".into());
     }
+    on_a_thread(move || all(n, seed, image))
+}
+
+/// Compares why each word of the stored answers is there.
+pub fn whys(file: &str) -> Result<(), String> {
+    if !WHY {
+        return Err("host_why is not linked: build with --features why and HASP_LIB".into());
+    }
+    let images = store::images(file)?;
+    on_a_thread(move || {
+        let mut words = 0;
+        for (n, img) in images.iter().enumerate() {
+            words += one_why(img, &program(img)).map_err(|e| format!("case {n}: {e}"))?;
+        }
+        println!("{} stored images: host_why equal, of each of their {words} words and past them", images.len());
+        Ok(())
+    })
+}
+
+// With a stack of HASP_STACK bytes (2 MiB).
+fn on_a_thread(run: impl FnOnce() -> Result<(), String> + Send + 'static) -> Result<(), String> {
     let stack = std::env::var("HASP_STACK").ok().and_then(|s| s.parse().ok()).unwrap_or(2 << 20);
-    let thread = std::thread::Builder::new().stack_size(stack).spawn(move || all(n, seed, image)).map_err(|e| e.to_string())?;
+    let thread = std::thread::Builder::new().stack_size(stack).spawn(run).map_err(|e| e.to_string())?;
     thread.join().map_err(|_| "the comparing thread broke".to_string())?
 }
 
-/// Of the images compared: how many are newly built, how many have a text, and in how many of these the name alone leaves an offset open.
+/// Of the images compared: how many are newly built, how many have a text, and in how many of these the name alone leaves an offset open;
+/// of how many words it was asked why they are there.
 #[derive(Default)]
 struct Seen {
     newly: u64,
     texts: u64,
     open: u64,
+    whys: u64,
 }
 
 impl Seen {
@@ -99,7 +132,7 @@ fn all(n: u64, seed: u64, image: fn(u64) -> Vec<u8>) -> Result<(), String> {
     for s in seed..seed + n {
         one(&image(s), &mut seeds).map_err(|e| format!("seed {s}: {e}"))?;
     }
-    let linked = [("check", CHECK), ("build", BUILD), ("host_analyse, host_build", HOST), ("host_text", TEXT)];
+    let linked = [("check", CHECK), ("build", BUILD), ("host_analyse, host_build", HOST), ("host_text", TEXT), ("host_why", WHY)];
     let names: Vec<&str> = linked.iter().filter(|l| l.1).map(|l| l.0).collect();
     println!("{n} seeds, {} of them newly built, and every edge: {} equal", seeds.newly, names.join(", "));
     if TEXT {
@@ -107,6 +140,12 @@ fn all(n: u64, seed: u64, image: fn(u64) -> Vec<u8>) -> Result<(), String> {
         println!(
             "{} texts of the seeds and {} of the edges, each as the Rust says it; in {open} an offset is open by the name alone",
             seeds.texts, edges.texts
+        );
+    }
+    if WHY {
+        println!(
+            "{} words of the seeds and {} of the edges, each of the record and with the target that the model has",
+            seeds.whys, edges.whys
         );
     }
     Ok(())
@@ -125,6 +164,9 @@ fn one(img: &[u8], seen: &mut Seen) -> Result<(), String> {
     seen.count(img, &p);
     if TEXT {
         one_text(img, &p)?;
+    }
+    if WHY {
+        seen.whys += one_why(img, &p)?;
     }
     let (words, numbers) = p.as_ref().map_or((5, 7), |p| (p.words.len(), 3 * p.table.len()));
     for (room, table) in
@@ -166,6 +208,15 @@ fn one_build(img: &[u8], p: &Result<Program, Refusal>, room: usize, table: usize
 fn one_text(img: &[u8], p: &Result<Program, Refusal>) -> Result<(), String> {
     let heard = compare::heard(img, p);
     TEXT_SLICES.into_iter().try_for_each(|len| one_slice(img, "text", len, |out| text(heard.as_ref(), out), lib_text))
+}
+
+// Every word, and indexes that no word has; how many words there are.
+fn one_why(img: &[u8], p: &Result<Program, Refusal>) -> Result<u64, String> {
+    let words = p.as_ref().map_or(0, |p| p.words.len() as u64);
+    for index in (0..words).chain([words, words + 1, 1 << 32, (1 << 32) + words, u64::MAX]) {
+        same(img, "why", why(p, index).packed(), lib_why(img, index)).map_err(|e| format!("word {index}: {e}"))?;
+    }
+    Ok(words)
 }
 
 type Library = fn(&[u8], &mut [u8]) -> u64;

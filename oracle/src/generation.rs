@@ -1,4 +1,4 @@
-// The generation of 000, read on the image itself, so that each error has its place.
+// The generation of 000, read on the image itself, so that each error and each word has its place.
 use crate::analysis::{builtin_arity, last, lists, name_of, text, Bases, Lists};
 use crate::image::*;
 use crate::model::Refusal;
@@ -27,12 +27,20 @@ const VERIFY: u8 = 0x1E;
 const BINARIES: [u8; 10] = [0x01, 0x02, 0x03, 0x04, 0x0A, 0x0B, 0x0C, 0x0D, 0x0E, 0x0F];
 const HEAP: u8 = 31;
 
-/// A finished program: its words, an entry for each function, the words whose offset two structs tell differently.
+/// A finished program: its words with their marks, an entry for each function, the words whose offset two structs tell differently.
 #[derive(Debug, PartialEq, Eq)]
 pub struct Program {
     pub words: Vec<u64>,
+    pub marks: Vec<Mark>,
     pub table: Vec<[u64; 3]>,
     pub undecided: Vec<usize>,
+}
+
+/// The record whose own translation emitted a word; and where it was patched, the index of the word that its offset leads to.
+#[derive(Debug, PartialEq, Eq)]
+pub struct Mark {
+    pub place: usize,
+    pub target: Option<usize>,
 }
 
 struct Gen<'a> {
@@ -40,6 +48,9 @@ struct Gen<'a> {
     bases: &'a Bases,
     lists: Lists,
     words: Vec<u64>,
+    marks: Vec<Mark>,
+    // The place of the record that is translated: what is emitted and asked for is its own.
+    by: usize,
     next: u8,
     scope: Vec<(&'a [u8], u8)>,
     calls: Vec<(usize, &'a [u8])>,
@@ -60,7 +71,8 @@ pub fn word(op: u8, rd: u8, rs1: u8, rs2: u8, imm: i64) -> u64 {
 
 /// 000: generate, over a sound image that analysis accepts. 40 beats everything.
 pub fn generate(img: &[u8], bases: &Bases) -> Result<Program, Refusal> {
-    let mut g = Gen { img, bases, lists: lists(img), words: vec![], next: 1, scope: vec![], calls: vec![], undecided: vec![] };
+    let (lists, words, marks) = (lists(img), vec![], vec![]);
+    let mut g = Gen { img, bases, lists, words, marks, by: 0, next: 1, scope: vec![], calls: vec![], undecided: vec![] };
     if last(img, &g.lists.functions, b"main").is_none() {
         return bad(40, 0, "main function not found".into());
     }
@@ -73,15 +85,24 @@ pub fn generate(img: &[u8], bases: &Bases) -> Result<Program, Refusal> {
         let f = g.lists.functions[i];
         let params = f.part(img, 1).parts(img).count();
         table.push([f.at as u64, g.words.len() as u64, params as u64]);
-        g.function(f, params)?;
+        g.within(f, |g| g.function(f, params))?;
     }
     g.link(&table);
-    Ok(Program { words: g.words, table, undecided: g.undecided })
+    Ok(Program { words: g.words, marks: g.marks, table, undecided: g.undecided })
 }
 
 impl<'a> Gen<'a> {
     fn emit(&mut self, op: u8, rd: u8, rs1: u8, rs2: u8, imm: i64) {
         self.words.push(word(op, rd, rs1, rs2, imm));
+        self.marks.push(Mark { place: self.by, target: None });
+    }
+
+    // The translation of a record, inside another's.
+    fn within<T>(&mut self, r: Rec, translate: impl FnOnce(&mut Self) -> T) -> T {
+        let outer = std::mem::replace(&mut self.by, r.at);
+        let done = translate(self);
+        self.by = outer;
+        done
     }
 
     fn here(&self) -> usize {
@@ -91,6 +112,7 @@ impl<'a> Gen<'a> {
     // Offsets are target less own index.
     fn patch(&mut self, at: usize, target: usize) {
         self.words[at] |= (target as i64 - at as i64) as u32 as u64 * (1 << 23);
+        self.marks[at].target = Some(target);
     }
 
     // Calls go to the last function of the name.
@@ -101,10 +123,10 @@ impl<'a> Gen<'a> {
         }
     }
 
-    // 000: alloc_reg; `by` is the record that asks.
-    fn alloc(&mut self, by: usize) -> InReg {
+    // 000: alloc_reg.
+    fn alloc(&mut self) -> InReg {
         if self.next >= HEAP {
-            return Err(Refusal { number: 41, place: by, text: "RegisterExhausted".into() });
+            return Err(Refusal { number: 41, place: self.by, text: "RegisterExhausted".into() });
         }
         self.next += 1;
         Ok(self.next - 1)
@@ -121,18 +143,18 @@ impl<'a> Gen<'a> {
     fn function(&mut self, f: Rec, params: usize) -> Done {
         self.next = 1;
         self.scope.clear();
-        let back = self.alloc(f.at)?;
+        let back = self.alloc()?;
         self.emit(POP, back, 0, 0, 0);
         for p in f.part(self.img, 1).parts(self.img) {
-            let reg = self.alloc(f.at)?;
+            let reg = self.alloc()?;
             self.scope.push((name_of(self.img, &p), reg));
         }
         (0..params).rev().for_each(|i| self.emit(POP, 2 + i as u8, 0, 0, 0));
         self.emit(PUSH, 0, back, 0, 0);
         self.stmts(f.part(self.img, 4))?;
-        let back = self.alloc(f.at)?;
+        let back = self.alloc()?;
         self.emit(POP, back, 0, 0, 0);
-        let zero = self.alloc(f.at)?;
+        let zero = self.alloc()?;
         self.zero_and_ret(zero, back);
         Ok(())
     }
@@ -145,7 +167,7 @@ impl<'a> Gen<'a> {
     }
 
     fn stmts(&mut self, list: Rec) -> Done {
-        list.parts(self.img).try_for_each(|s| self.stmt(s))
+        list.parts(self.img).try_for_each(|s| self.within(s, |g| g.stmt(s)))
     }
 
     fn stmt(&mut self, s: Rec) -> Done {
@@ -207,16 +229,16 @@ impl<'a> Gen<'a> {
         };
         let key = self.expr(s.part(self.img, 1))?;
         let val = self.expr(s.part(self.img, 2))?;
-        let target = self.mapped(s.at, slot, key)?;
+        let target = self.mapped(slot, key)?;
         self.emit(SWRITE, 0, val, target, -1);
         Ok(())
     }
 
     // The slot of a mapping's key, in a register.
-    fn mapped(&mut self, by: usize, slot: i64, key: u8) -> InReg {
-        let base = self.alloc(by)?;
+    fn mapped(&mut self, slot: i64, key: u8) -> InReg {
+        let base = self.alloc()?;
         self.emit(LOAD, base, 0, 0, slot);
-        let target = self.alloc(by)?;
+        let target = self.alloc()?;
         self.emit(POSEIDON, target, base, key, 0);
         Ok(target)
     }
@@ -241,14 +263,22 @@ impl<'a> Gen<'a> {
     fn loops(&mut self, s: Rec) -> Done {
         let (saved, start) = (self.next, self.here());
         let cond = self.expr(s.part(self.img, 0))?;
-        self.emit(JNZ, 0, cond, 0, 2);
-        self.next = saved;
-        let to_end = self.here();
-        self.emit(JMP, 0, 0, 0, 0);
+        let to_end = self.turn(cond, saved);
         self.stmts(s.part(self.img, 1))?;
         self.jump_back(start);
         self.patch(to_end, self.here());
         Ok(())
+    }
+
+    // Into a loop's body or past it; the Jmp past it, which is patched when the end is known.
+    fn turn(&mut self, cond: u8, next: u8) -> usize {
+        let to_body = self.here();
+        self.emit(JNZ, 0, cond, 0, 0);
+        self.next = next;
+        let to_end = self.here();
+        self.emit(JMP, 0, 0, 0, 0);
+        self.patch(to_body, self.here());
+        to_end
     }
 
     fn jump_back(&mut self, start: usize) {
@@ -259,18 +289,15 @@ impl<'a> Gen<'a> {
     fn counts(&mut self, s: Rec) -> Done {
         let from = self.expr(s.part(self.img, 1))?;
         let to = self.expr(s.part(self.img, 2))?;
-        let var = self.alloc(s.at)?;
+        let var = self.alloc()?;
         self.emit(ADD, var, from, 0, 0);
         let (mark, start) = (self.scope.len(), self.here());
         self.scope.push((name_of(self.img, &s), var));
-        let cond = self.alloc(s.at)?;
+        let cond = self.alloc()?;
         self.emit(LT, cond, var, to, 0);
-        self.emit(JNZ, 0, cond, 0, 2);
-        self.next = var + 1;
-        let to_end = self.here();
-        self.emit(JMP, 0, 0, 0, 0);
+        let to_end = self.turn(cond, var + 1);
         self.stmts(s.part(self.img, 3))?;
-        let one = self.alloc(s.at)?;
+        let one = self.alloc()?;
         self.emit(LOAD, one, 0, 0, 1);
         self.emit(ADD, var, var, one, 0);
         self.jump_back(start);
@@ -280,10 +307,10 @@ impl<'a> Gen<'a> {
     }
 
     fn ret(&mut self, s: Rec) -> Done {
-        let back = self.alloc(s.at)?;
+        let back = self.alloc()?;
         self.emit(POP, back, 0, 0, 0);
         let Some(e) = s.parts(self.img).next() else {
-            let zero = self.alloc(s.at)?;
+            let zero = self.alloc()?;
             self.zero_and_ret(zero, back);
             return Ok(());
         };
@@ -295,6 +322,10 @@ impl<'a> Gen<'a> {
     }
 
     fn expr(&mut self, e: Rec) -> InReg {
+        self.within(e, |g| g.value(e))
+    }
+
+    fn value(&mut self, e: Rec) -> InReg {
         let img = self.img;
         match e.kind {
             INT => self.int(e),
@@ -306,21 +337,21 @@ impl<'a> Gen<'a> {
             MAPPING_READ => self.mapping_read(e),
             FIELD_ACCESS => self.access(e),
             STRUCT_LITERAL => self.literal(e),
-            BINARY => self.pair(e, e.part(img, 0), e.part(img, 2), BINARIES[e.part(img, 1).bytes(img)[0] as usize]),
+            BINARY => self.pair(e.part(img, 0), e.part(img, 2), BINARIES[e.part(img, 1).bytes(img)[0] as usize]),
             _ => self.call(e),
         }
     }
 
     fn int(&mut self, e: Rec) -> InReg {
         let v = u64::from_le_bytes(e.bytes(self.img).try_into().unwrap());
-        let reg = self.alloc(e.at)?;
+        let reg = self.alloc()?;
         if v < 1 << 31 {
             self.emit(LOAD, reg, 0, 0, v as i64);
             return Ok(reg);
         }
-        let shift = self.alloc(e.at)?;
+        let shift = self.alloc()?;
         self.emit(LOAD, shift, 0, 0, 1 << 30);
-        let temp = self.alloc(e.at)?;
+        let temp = self.alloc()?;
         let chunks = [v >> 60, v >> 30 & 0x3FFF_FFFF, v & 0x3FFF_FFFF];
         let first = chunks.iter().position(|c| *c > 0).expect("a number above 2^31");
         self.emit(LOAD, reg, 0, 0, chunks[first] as i64);
@@ -335,7 +366,7 @@ impl<'a> Gen<'a> {
     }
 
     fn storage_read(&mut self, e: Rec) -> InReg {
-        let reg = self.alloc(e.at)?;
+        let reg = self.alloc()?;
         let x = name_of(self.img, &e);
         match self.slot(x) {
             Some(slot) => self.emit(SREAD, reg, 0, 0, slot),
@@ -350,15 +381,15 @@ impl<'a> Gen<'a> {
             return bad(47, e.at, format!("Unknown mapping in codegen: {}", text(x)));
         };
         let key = self.expr(e.part(self.img, 1))?;
-        let target = self.mapped(e.at, slot, key)?;
-        let reg = self.alloc(e.at)?;
+        let target = self.mapped(slot, key)?;
+        let reg = self.alloc()?;
         self.emit(SREAD, reg, 0, target, -1);
         Ok(reg)
     }
 
     fn access(&mut self, e: Rec) -> InReg {
         let base = self.expr(e.part(self.img, 0))?;
-        let reg = self.alloc(e.at)?;
+        let reg = self.alloc()?;
         let found = positions(self.img, &self.lists.structs, self.bases, e);
         if found.len() > 1 {
             self.undecided.push(self.here());
@@ -369,7 +400,7 @@ impl<'a> Gen<'a> {
 
     fn literal(&mut self, e: Rec) -> InReg {
         let saved = self.next;
-        let ptr = self.alloc(e.at)?;
+        let ptr = self.alloc()?;
         self.emit(ADD, ptr, HEAP, 0, 0);
         let mut vals = Vec::new();
         for i in e.part(self.img, 1).parts(self.img) {
@@ -378,17 +409,17 @@ impl<'a> Gen<'a> {
         for (i, val) in vals.iter().enumerate() {
             self.emit(STORE, 0, ptr, *val, i as i64 * 8);
         }
-        let size = self.alloc(e.at)?;
+        let size = self.alloc()?;
         self.emit(LOAD, size, 0, 0, vals.len() as i64 * 8);
         self.emit(ADD, HEAP, HEAP, size, 0);
         self.next = saved;
-        let reg = self.alloc(e.at)?;
+        let reg = self.alloc()?;
         self.emit(ADD, reg, ptr, 0, 0);
         Ok(reg)
     }
 
     // Binary and poseidon: the answer goes to the first register that was made for it.
-    fn pair(&mut self, e: Rec, left: Rec, right: Rec, op: u8) -> InReg {
+    fn pair(&mut self, left: Rec, right: Rec, op: u8) -> InReg {
         let saved1 = self.next;
         let l = self.expr(left)?;
         let saved2 = self.next;
@@ -396,7 +427,7 @@ impl<'a> Gen<'a> {
         let reg = match (l >= saved1, r >= saved2) {
             (true, _) => l,
             (false, true) => r,
-            (false, false) => self.alloc(e.at)?,
+            (false, false) => self.alloc()?,
         };
         self.emit(op, reg, l, r, 0);
         self.next = saved1.max(reg + 1);
@@ -407,13 +438,13 @@ impl<'a> Gen<'a> {
         let name = name_of(self.img, &e);
         let args: Vec<Rec> = e.part(self.img, 1).parts(self.img).collect();
         if builtin_arity(name).is_none() {
-            return self.call_function(e, name, &args);
+            return self.call_function(name, &args);
         }
         match name {
-            b"poseidon" => return self.pair(e, args[0], args[1], POSEIDON),
+            b"poseidon" => return self.pair(args[0], args[1], POSEIDON),
             b"verify_merkle_proof" => {
                 let (root, leaf, path) = (self.expr(args[0])?, self.expr(args[1])?, self.expr(args[2])?);
-                let reg = self.alloc(e.at)?;
+                let reg = self.alloc()?;
                 self.emit(VERIFY, reg, root, leaf, path as i64);
                 return Ok(reg);
             }
@@ -424,12 +455,12 @@ impl<'a> Gen<'a> {
             b"block::number" => 2,
             _ => 3,
         };
-        let reg = self.alloc(e.at)?;
+        let reg = self.alloc()?;
         self.emit(SYSCALL, reg, 0, 0, what);
         Ok(reg)
     }
 
-    fn call_function(&mut self, e: Rec, name: &'a [u8], args: &[Rec]) -> InReg {
+    fn call_function(&mut self, name: &'a [u8], args: &[Rec]) -> InReg {
         let saved = self.next;
         (1..saved).for_each(|r| self.emit(PUSH, 0, r, 0, 0));
         let mut regs = Vec::new();
@@ -440,7 +471,7 @@ impl<'a> Gen<'a> {
         self.calls.push((self.here(), name));
         self.emit(CALLS, 0, 0, 0, 0);
         self.next = saved;
-        let reg = self.alloc(e.at)?;
+        let reg = self.alloc()?;
         self.emit(POP, reg, 0, 0, 0);
         (1..saved).rev().for_each(|r| self.emit(POP, r, 0, 0, 0));
         Ok(reg)

@@ -18,6 +18,7 @@ mod grammar;
 mod groups;
 mod image;
 mod kept;
+mod marks;
 mod meant;
 mod model;
 mod node;
@@ -32,6 +33,8 @@ mod tricks;
 // The crate's own: its writer, and what its tests build trees with.
 #[path = "../../host/tests/common/edges.rs"]
 mod edges;
+#[path = "../../host/tests/common/every.rs"]
+mod every;
 #[path = "../../host/tests/common/tree.rs"]
 mod tree;
 #[path = "../../host/src/image.rs"]
@@ -64,7 +67,8 @@ pub use isa::{Instruction, IsaProfile, Opcode};
 use std::process::exit;
 
 const USE: &str = "use: oracle [selfcheck [accesses] N | gen SEED COUNT DIR | answer FILE [ROOM TABLE] | analyse FILE | text FILE | \
-listing PROGRAM N [SEED] | staticlib [accesses] N [SEED] | bench [ROUNDS] | store DIR | replay FILE | samples DIR | kept]";
+why FILE [INDEX] | listing PROGRAM N [SEED] | staticlib [accesses] N [SEED] | whys FILE | bench [ROUNDS] | store DIR | replay FILE | \
+samples DIR | kept]";
 
 type Said = Result<(), String>;
 
@@ -87,12 +91,15 @@ fn command(words: &[&str]) -> Said {
         ["answer", file, room, table] => answer(file, number(room)? as usize, number(table)? as usize),
         ["analyse", file] => analyse(file),
         ["text", file] => text(file),
+        ["why", file] => why(file, None),
+        ["why", file, index] => why(file, Some(number(index)?)),
         ["listing", program, n] => selfcheck::listing(program, number(n)?, 0),
         ["listing", program, n, seed] => selfcheck::listing(program, number(n)?, number(seed)?),
         ["staticlib", "accesses", n] => foreign::compare(number(n)?, 0, accesses::image),
         ["staticlib", "accesses", n, seed] => foreign::compare(number(n)?, number(seed)?, accesses::image),
         ["staticlib", n] => foreign::compare(number(n)?, 0, cases::image),
         ["staticlib", n, seed] => foreign::compare(number(n)?, number(seed)?, cases::image),
+        ["whys", file] => foreign::whys(file),
         ["bench"] => bench::run(9),
         ["bench", rounds] => bench::run(number(rounds)?),
         ["store", dir] => store::store(dir),
@@ -139,5 +146,19 @@ fn text(file: &str) -> Said {
     let a = model::text(refusal.as_ref(), &mut [0; model::TEXT_ROOM]);
     println!("{} {} {}", a.refusal, a.place, a.count);
     refusal.filter(|_| a.count > 0).iter().for_each(|r| println!("{}", r.text));
+    Ok(())
+}
+
+fn why(file: &str, index: Option<u64>) -> Said {
+    let p = model::program(&load(file)?);
+    let words = p.as_ref().map_or(1, |p| p.words.len() as u64);
+    for i in index.map_or(0..=words - 1, |i| i..=i) {
+        let a = model::why(&p, i);
+        if a.refusal != 0 {
+            println!("refused {} {} {}", a.refusal, a.place, a.count);
+        } else {
+            println!("{i} {} {}", a.place, a.count);
+        }
+    }
     Ok(())
 }

@@ -109,6 +109,18 @@ pub fn host(p: &Result<Program, Refusal>, bytes: &mut [u8]) -> Answer {
     a
 }
 
+/// Why a word is there (document 02, P5): the place of its record; the count is 0 if it was not patched, else 1 and the index of its target.
+pub fn why(p: &Result<Program, Refusal>, index: u64) -> Answer {
+    let marks = match p {
+        Err(r) => return Answer::of(r),
+        Ok(p) => &p.marks,
+    };
+    match usize::try_from(index).ok().and_then(|i| marks.get(i)) {
+        None => Answer { refusal: 53, place: 0, count: 0 },
+        Some(m) => Answer { refusal: 0, place: m.place as u32, count: m.target.map_or(0, |t| 1 + t as u32) },
+    }
+}
+
 /// The texts (document 02, P1): over the slice's first bytes; past the text, or where there is none, the slice stays as lent.
 pub fn text(refusal: Option<&Refusal>, out: &mut [u8]) -> Answer {
     let none = |refusal| Answer { refusal, place: 0, count: 0 };

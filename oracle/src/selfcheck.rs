@@ -12,12 +12,14 @@ pub const EVERY: [u32; 32] =
     [0, 1, 2, 3, 4, 5, 6, 7, 10, 11, 12, 13, 14, 15, 16, 17, 18, 19, 20, 21, 22, 30, 40, 41, 42, 43, 44, 45, 46, 47, 50, 51];
 const POISON: u64 = 0xA5A5_A5A5_A5A5_A5A5;
 
-/// How often each number was given, and how often each kind of record was built; of how many images the Rust was heard with the fields
-/// renamed apart, and how many of them are built.
+/// How often each number was given, and how often each kind of record was built; how many words these have, and how many of them were
+/// patched; of how many images the Rust was heard with the fields renamed apart, and how many of them are built.
 #[derive(Default)]
 struct Hits {
     answers: BTreeMap<u32, u64>,
     built: BTreeMap<u16, u64>,
+    words: usize,
+    patched: usize,
     apart: u64,
     newly: u64,
 }
@@ -51,6 +53,7 @@ pub fn run(seeds: u64, image: fn(u64) -> Vec<u8>) -> Result<(), String> {
         return Err(format!("no built contract has records of kind {unused:?}"));
     }
     println!("{seeds} seeds and every edge: no disagreement, every number given");
+    println!("{} words, each of the record that emitted it, {} of them patched", hits.words, hits.patched);
     println!("{} of the seeds judged by the Rust with the fields renamed apart, {} of them newly built", hits.apart, hits.newly);
     Ok(())
 }
@@ -75,8 +78,10 @@ fn samples_hold(hits: &mut Hits) -> Result<(), String> {
 // One image: the Rust is heard, then the rooms are tried.
 fn hold(img: &[u8], hits: &mut Hits) -> Result<(), String> {
     let p = compare::hold(img);
-    if p.is_ok() {
+    if let Ok(p) = &p {
         count(img, rec_at(img, 0), &mut hits.built);
+        hits.words += p.marks.len();
+        hits.patched += p.marks.iter().filter(|m| m.target.is_some()).count();
     }
     if was_30(img) && p.as_ref().err().is_none_or(|r| r.number != 30) {
         hits.apart += 1;

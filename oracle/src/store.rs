@@ -102,25 +102,42 @@ pub fn store(dir: &str) -> Result<(), String> {
 
 /// Reads a stored file again and holds it against the model.
 pub fn replay(file: &str) -> Result<(), String> {
+    let (cases, rest) = read(file)?;
+    for (n, case) in cases.iter().enumerate() {
+        let img = image_of(case);
+        if case_of(img, u32_at(case, 4) as usize, u32_at(case, 8) as usize) != *case {
+            return Err(format!("case {n} is answered otherwise: image {}", compare::hex(img)));
+        }
+    }
+    if rest != wrong().concat() {
+        return Err(format!("{file} has other wrong cases"));
+    }
+    println!("{} cases equal", cases.len());
+    Ok(())
+}
+
+/// The images of a stored file, but for the wrong cases.
+pub fn images(file: &str) -> Result<Vec<Vec<u8>>, String> {
+    Ok(read(file)?.0.iter().map(|case| image_of(case).to_vec()).collect())
+}
+
+// The cases of a stored file, and the wrong ones behind them.
+fn read(file: &str) -> Result<(Vec<Vec<u8>>, Vec<u8>), String> {
     let all = crate::load(file)?;
     if all.len() < HEADER || all[..8] != *MAGIC || u32_at(&all, 12) as usize != all.len() {
         return Err(format!("{file} is no file of stored answers"));
     }
-    let count = u32_at(&all, 8);
-    let mut at = HEADER;
-    for n in 0..count {
-        let img = &all[at + CASE..at + CASE + u32_at(&all, at) as usize];
-        let again = case_of(img, u32_at(&all, at + 4) as usize, u32_at(&all, at + 8) as usize);
-        if !all[at..].starts_with(&again) {
-            return Err(format!("case {n} is answered otherwise: image {}", compare::hex(img)));
-        }
-        at += again.len();
+    let (mut at, mut cases) = (HEADER, vec![]);
+    for _ in 0..u32_at(&all, 8) {
+        let end = at + CASE + u32_at(&all, at) as usize + u32_at(&all, at + TEXT_LENGTH) as usize;
+        cases.push(all[at..end].to_vec());
+        at = end;
     }
-    if all[at..] != wrong().concat() {
-        return Err(format!("{file} has other wrong cases at {at}"));
-    }
-    println!("{count} cases equal");
-    Ok(())
+    Ok((cases, all[at..].to_vec()))
+}
+
+fn image_of(case: &[u8]) -> &[u8] {
+    &case[CASE..CASE + u32_at(case, 0) as usize]
 }
 
 // An image as a case.

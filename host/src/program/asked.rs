@@ -13,14 +13,26 @@ pub enum Asked {
     Text {
         image: OsString,
     },
+    /// Of one word, or of all.
+    Why {
+        image: OsString,
+        index: Option<u64>,
+    },
 }
 
 // A command's form, and what its help says of it.
 struct Command {
     usage: &'static str,
     about: &'static str,
-    // Whether it has -o FILE.
-    writes: bool,
+    takes: Takes,
+}
+
+// What a command takes besides IMAGE: nothing; -o FILE, if it is given; INDEX or --all.
+#[derive(PartialEq)]
+enum Takes {
+    Nothing,
+    File,
+    Index,
 }
 
 const BUILD: Command = Command {
@@ -30,7 +42,7 @@ const BUILD: Command = Command {
   -o FILE  write the words into FILE instead, 8 little-endian bytes each; - is standard output.
            A file that is there stays as it is if the image is refused or the write fails.
 ",
-    writes: true,
+    takes: Takes::File,
 };
 
 const TEXT: Command = Command {
@@ -38,15 +50,28 @@ const TEXT: Command = Command {
     about: "Prints the old compiler's own text of why an image is refused. Refusals 10 to 22 and 40 to 47 have one;
 of the others, and of an image that is accepted, nothing is printed.
 ",
-    writes: false,
+    takes: Takes::Nothing,
+};
+
+const WHY: Command = Command {
+    usage: "haspnettle why IMAGE INDEX|--all",
+    about: "Prints which record of an image asked for a word of its program: the word's index, the record's kind, its place
+(an offset in the image) and its function, and, if the word was patched later, the index of the word that its offset
+leads to: `6 If at 72 in main, patched, leads to 8`. The first three words are the Contract's, at 0 and in no function.
+
+  INDEX  the word's index, from 0, as `haspnettle build` prints it
+  --all  a line for each word
+",
+    takes: Takes::Index,
 };
 
 const ALL: &str = "Contracts to words of a proving register machine.
 
   build  prints the words of an image, or writes them into FILE
   text   prints the old compiler's own text of why an image is refused
+  why    prints which record asked for a word
 
-`haspnettle build --help` and `haspnettle text --help` say more; `haspnettle --version` says which this is.
+`haspnettle COMMAND --help` says more of each; `haspnettle --version` says which this is.
 ";
 
 const ENDS: &str = "IMAGE - is standard input. The exit status is
@@ -57,39 +82,55 @@ const ENDS: &str = "IMAGE - is standard input. The exit status is
 
 /// Reads the arguments behind the program's name.
 pub fn asked(mut args: impl Iterator<Item = OsString>) -> Result<Asked, Stop> {
-    let usage = format!("{}, or {}", BUILD.usage, TEXT.usage);
-    let Some(first) = args.next() else { return wrong("no command", &usage) };
+    let usages = |between| [BUILD, TEXT, WHY].map(|command| command.usage).join(between);
+    let Some(first) = args.next() else { return wrong("no command", &usages(", or ")) };
     match first.to_str() {
-        Some("build") => BUILD.asked(args, |image, file| Asked::Build { image, file }),
-        Some("text") => TEXT.asked(args, |image, _| Asked::Text { image }),
-        Some("-h" | "--help") => Ok(Asked::Said(format!("usage: {}\n       {}\n\n{ALL}\n{ENDS}", BUILD.usage, TEXT.usage))),
+        Some("build") => BUILD.asked(args, |image, file| Ok(Asked::Build { image, file })),
+        Some("text") => TEXT.asked(args, |image, _| Ok(Asked::Text { image })),
+        Some("why") => WHY.asked(args, why),
+        Some("-h" | "--help") => Ok(Asked::Said(format!("usage: {}\n\n{ALL}\n{ENDS}", usages("\n       ")))),
         Some("--version") => Ok(Asked::Said(format!("haspnettle {}\n", env!("CARGO_PKG_VERSION")))),
-        _ => wrong(&format!("no command {first:?}"), &usage),
+        _ => wrong(&format!("no command {first:?}"), &usages(", or ")),
     }
 }
 
+fn why(image: OsString, index: Option<OsString>) -> Result<Asked, Stop> {
+    let Some(given) = index else { return wrong("no INDEX", WHY.usage) };
+    let index = given.to_str().and_then(|digits| digits.parse().ok());
+    if index.is_none() && given != "--all" {
+        return wrong(&format!("INDEX {given:?} is no number below 2^64"), WHY.usage);
+    }
+    Ok(Asked::Why { image, index })
+}
+
+// What is asked for with IMAGE and what else was given.
+type Of = fn(OsString, Option<OsString>) -> Result<Asked, Stop>;
+
 impl Command {
-    // Options and IMAGE, in any order.
-    fn asked(&self, mut args: impl Iterator<Item = OsString>, of: fn(OsString, Option<OsString>) -> Asked) -> Result<Asked, Stop> {
-        let (mut image, mut file) = (None, None);
+    // IMAGE before INDEX, and options anywhere.
+    fn asked(&self, mut args: impl Iterator<Item = OsString>, of: Of) -> Result<Asked, Stop> {
+        let (mut image, mut other) = (None, None);
         while let Some(arg) = args.next() {
+            let all = self.takes == Takes::Index && arg == "--all";
             match arg.to_str() {
                 Some("-h" | "--help") => return Ok(Asked::Said(format!("usage: {}\n\n{}\n{ENDS}", self.usage, self.about))),
-                Some("-o") if self.writes && file.is_some() => return wrong("a second -o", self.usage),
-                Some("-o") if self.writes => match args.next() {
+                Some("-o") if self.takes == Takes::File => match args.next() {
                     None => return wrong("-o without FILE", self.usage),
-                    named => file = named,
+                    _ if other.is_some() => return wrong("a second -o", self.usage),
+                    named => other = named,
                 },
-                _ if arg != "-" && arg.as_encoded_bytes().starts_with(b"-") => {
+                _ if !all && arg != "-" && arg.as_encoded_bytes().starts_with(b"-") => {
                     return wrong(&format!("unknown option {arg:?}"), self.usage)
                 }
-                _ if image.is_some() => return wrong(&format!("a second IMAGE, {arg:?}"), self.usage),
-                _ => image = Some(arg),
+                _ if !all && image.is_none() => image = Some(arg),
+                _ if self.takes != Takes::Index => return wrong(&format!("a second IMAGE, {arg:?}"), self.usage),
+                _ if other.is_some() => return wrong(&format!("a second INDEX, {arg:?}"), self.usage),
+                _ => other = Some(arg),
             }
         }
         match image {
             None => wrong("no IMAGE", self.usage),
-            Some(image) => Ok(of(image, file)),
+            Some(image) => of(image, other),
         }
     }
 }

@@ -2,6 +2,7 @@
 #![allow(dead_code)] // no test uses all of it
 
 pub mod edges;
+pub mod every;
 mod guard;
 pub mod tree;
 
