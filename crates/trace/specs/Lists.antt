@@ -1,7 +1,8 @@
 -- The loops of the walk, and a statement by its kind.
 --     Logs          whatever is found in the rest of an Emit's arguments is found in all: logs-begin, logs-go, logs-in, logs-own, logs-end
 --     Rest          whatever is found in the rest of a List is found in all of it: rest-begin, rest-go, rest-in, rest-last, rest-end
---     Down          whatever is found in the List that t leads to is found in the whole: down-begin, down-block, down-value, down-own, down-absent, down-end
+--     falls-absent, falls-ready, falls-in      a step down from a List, by its statement
+--     Down          whatever is found in the List that t leads to is found in the whole: down-begin, down-go, down-settled, down-end
 --     kind-in, kind-own, kind-ready      by its number
 -- Assumes nothing.
 use mathlib.Core.Path.{_≡_, refl, sym, ap, _∙_, subst}
@@ -33,9 +34,9 @@ use Rattle.seek.specs.declared.Spot.{Spot}
 use Rattle.seek.specs.declared.Step.{Step}
 use Rattle.seek.specs.Goes.{Goes, goes-word}
 use Rattle.seek.specs.Found.{Found, found-first, found-later, found-none, each-none, each-more, Own, found-own, own-say, own-done, own-then, long-done}
-use Rattle.seek.specs.Spots.{plain, spotOf, told, owned, into, spotIn, Counts, Finds}
+use Rattle.seek.specs.Spots.{plain, spotOf, told, owned, into, Counts}
 use Rattle.seek.specs.Parts.{is-found, into-first}
-use Rattle.trace.specs.Moves.{entering, within, Counted, Blocks, Ends, owns, value, block, Moves, Steps, Reaches}
+use Rattle.trace.specs.Moves.{entering, within, Counted, Blocks, Ends, block, Moves, Steps, Reaches, Falls}
 use Rattle.trace.specs.Turns.{found-last}
 use Rattle.trace.specs.Parts.{stays, ends-into, restored}
 
@@ -194,28 +195,29 @@ down-begin {img} {t} {N} {s} {R} {depth} {l} {st} {end} {want} h e = record {
   long = refl;
 }
 
+-- Room for the names of the statement that was reached.
+pub falls-ready : {img t N s s₁ : List ℕ} {R : Rules} {d l : ℕ} {st : St} {end want e : ℕ} {x : Step} → Reaches img t N s s₁ R d l st end want x → (d ≡ 0 → ⊥) → e ≡ d - 1 → x .way ≡ 5
+    → Ready img t N s₁ (vars (stmtAt (suc e) img (x .place)))
+falls-ready {d = d} {e = e} g z f w = let q : suc e ≡ d = omega (arith, z, f) in rw q (g .ready w)
+
+-- One step down from the List that b leads to, by its statement.
+module _ {img t N s s₁ : List ℕ} {R : Rules} {d : ℕ} {b x : Step} {want : ℕ} (g : Reaches img t N s s₁ R d (b .place) (b .st) (b .to) want x) where
+  pub falls-absent : {u : Step} {y : St} {p : ℕ} → (x .way ≡ 5 → ⊥) → u ≡ owned p y → Falls img t N s s₁ R d b want u
+  falls-absent w e = record { leads = λ a k. g .absent a w; ready = λ q. absurd (omega (arith, sym (ap (λ (x : Step). x .way) e) ∙ q)) }
+
+  pub falls-in : {e : ℕ} {s₂ : List ℕ} {u : Step} → (d ≡ 0 → ⊥) → e ≡ d - 1 → x .way ≡ 5 → Steps img t N s₁ s₂ R e (x .place) (x .st) (x .to) want u → Falls img t N s s₂ R d b want u
+  falls-in {e} z f w h = record {
+    leads = λ a k. let q : suc e ≡ d = omega (arith, z, f) in g .leads a w (rw q at (h .leads a (rw (← f) at k)));
+    ready = λ v. rw (← f) (h .ready v);
+  }
+
 module _ {img t N s₀ : List ℕ} {R : Rules} {depth l : ℕ} {st : St} {end want : ℕ} {s : List ℕ} {d : ℕ} {b : Step} (D : Down img t N s₀ R depth l st end want s d b) where
   pub down-end : (a : Spot) → d ≡ 0 → Blocks img s₀ R depth l st end want a
   down-end a z = D .whole a (record { found = rw z (found-own (silent (rulesOf R) (contractAt img) img 65536 _ _ _ _)) })
 
-  module _ {s₁ : List ℕ} {x : Step} (g : Reaches img t N s s₁ R d (b .place) (b .st) (b .to) want x) where
-    pub down-absent : (a : Spot) → (x .way ≡ 5 → ⊥) → Blocks img s₀ R depth l st end want a
-    down-absent a w = D .whole a (g .absent a w)
+  module _ {s₂ : List ℕ} {u : Step} (f : Falls img t N s s₂ R d b want u) where
+    pub down-settled : {e : ℕ} {a : Spot} → e ≡ d - 1 → Ends img s₂ R e want u a → Blocks img s₀ R depth l st end want a
+    down-settled {e} {a} g k = D .whole a (f .leads a (rw g at k))
 
-    module _ {e : ℕ} {s₂ : List ℕ} {u : Step} (z : d ≡ 0 → ⊥) (f : e ≡ d - 1) (w : x .way ≡ 5) (h : Steps img t N s₁ s₂ R e (x .place) (x .st) (x .to) want u) where
-      at-depth : {a : Spot} → Ends img s₂ R e want u a → Blocks img s₀ R depth l st end want a
-      at-depth {a} k = let q : suc e ≡ d = omega (arith, z, f) in D .whole a (g .leads a w (rw q at (h .leads a k)))
-
-      pub down-value : {a : Spot} → u .way ≡ 3 → Finds img s₂ R (exprAt e img (u .place)) (u .st) (u .to) want a → Blocks img s₀ R depth l st end want a
-      down-value v k = at-depth (value v k)
-
-      pub down-own : (u .way ≡ 3 → ⊥) → (u .way ≡ 4 → ⊥) → Blocks img s₀ R depth l st end want (spotIn u)
-      down-own v k = at-depth (owns v k refl)
-
-      pub down-block : u .way ≡ 4 → length s₂ ≡ length s → Down img t N s₀ R depth l st end want s₂ e u
-      down-block v m = record { whole = λ a k. at-depth (block v k); ready = h .ready v; long = m ∙ D .long }
-
--- room for the names of the statement that was reached
-pub down-ready : {img t N s s₁ : List ℕ} {R : Rules} {d l : ℕ} {st : St} {end want e : ℕ} {x : Step} → Reaches img t N s s₁ R d l st end want x → (d ≡ 0 → ⊥) → e ≡ d - 1 → x .way ≡ 5
-    → Ready img t N s₁ (vars (stmtAt (suc e) img (x .place)))
-down-ready {d = d} {e = e} g z f w = let q : suc e ≡ d = omega (arith, z, f) in rw q (g .ready w)
+    pub down-go : {e : ℕ} → e ≡ d - 1 → u .way ≡ 4 → length s₂ ≡ length s → Down img t N s₀ R depth l st end want s₂ e u
+    down-go {e} g v m = record { whole = λ a k. D .whole a (f .leads a (rw g at (block v k))); ready = rw g (f .ready v); long = m ∙ D .long }

@@ -4,7 +4,7 @@
 --     Ends         what is known of the spot a once the step is known: the step's own, or what its part says
 --     Loops        behind the condition of a loop
 --     Moves        a step from a statement of a kind; Steps: of any
---     Reaches      a step from a List to its statement
+--     Reaches      a step from a List to its statement; Falls: to the statement's part
 -- Assumes nothing.
 use mathlib.Core.Path.{_≡_}
 use mathlib.Core.Bool.{true, false}
@@ -81,3 +81,8 @@ pub record Reaches (img t N s s' : List ℕ) (R : Rules) (d l : ℕ) (st : St) (
       → Blocks img s R d l st end want a
   pub ready : r .way ≡ 5 → Ready img t N s' (vars (stmtAt d img (r .place)))
   pub absent : (a : Spot) → (r .way ≡ 5 → ⊥) → Blocks img s R d l st end want a
+
+-- step_list: from the List that b leads to
+pub record Falls (img t N s s' : List ℕ) (R : Rules) (d : ℕ) (b : Step) (want : ℕ) (r : Step) : Type 0 where
+  pub leads : (a : Spot) → Ends img s' R (d - 1) want r a → Blocks img s R d (b .place) (b .st) (b .to) want a
+  pub ready : r .way ≡ 4 → Ready img t N s' (vars-stmts (bodyAt (stmtAt (d - 1) img) img (r .place)))

@@ -11,7 +11,7 @@ ghost use Rattle.bounds.specs.Sizes.{vars, vars-stmts};
 ghost use Rattle.notes.specs.Notes.{Known};
 ghost use Rattle.stmt.specs.Frame.{Ready};
 ghost use Rattle.stmt.specs.Runs.{taken};
-ghost use Rattle.trace.specs.Moves.{entering, within, Counted, CountedAll, CountedElse, Loops, Moves, Steps, Reaches, Blocks};
+ghost use Rattle.trace.specs.Moves.{entering, within, Counted, CountedAll, CountedElse, Loops, Moves, Steps, Reaches, Falls, Ends, Blocks};
 use emit::Rules;
 use emit::St;
 use seek::Spot;
@@ -418,6 +418,84 @@ fn step_block(
     seek::own(list, s)
 }
 
+// From the List of statements that t leads to, d records deep at most, to the part of a statement that the word lies in.
+fn step_list(
+    scope: &mut [usize],
+    img: &[u8],
+    tables: &[usize],
+    notes: &[u8; notes::SIZE],
+    rules: Rules,
+    d: usize,
+    t: Step,
+    want: usize,
+) -> Step
+    requires { ⌜ Ready (now img) (now tables) (now notes) (now scope) (vars-stmts (bodyAt (stmtAt d (now img)) (now img) (t .place))) × (d ≡ 0 → ⊥) ⌝ }
+    ensures { λ r. ⌜ Falls (now (img .entry)) (now (tables .entry)) (now (notes .entry)) (now (scope .entry)) (now (scope .exit)) rules d t want r ⌝ }
+{
+    let b = step_block(
+        scope,
+        img,
+        tables,
+        notes,
+        rules,
+        d,
+        t.place,
+        t.st,
+        t.to,
+        want,
+    );
+    if b.way != STMT {
+        return seek::own(b.place, b.st);
+    }
+    step_stmt(
+        scope,
+        img,
+        tables,
+        notes,
+        rules,
+        d - 1,
+        b.place,
+        b.st,
+        b.to,
+        want,
+    )
+}
+
+// The spot that t leads to, where that is no List of statements.
+fn settle(
+    img: &[u8],
+    tables: &[usize],
+    notes: &[u8; notes::SIZE],
+    scope: &[usize],
+    rules: Rules,
+    d: usize,
+    t: Step,
+    want: usize,
+) -> Spot
+    requires { ⌜ Known (now img) (now tables) (now notes) ⌝ }
+    ensures { λ r. ⌜ ((t .way ≡ 4 → ⊥) → Ends (now (img .entry)) (now (scope .entry)) rules d want t r) ⌝ }
+{
+    if t.way == seek::VALUE {
+        return seek::find_expr(
+            img,
+            tables,
+            notes,
+            scope,
+            rules,
+            d,
+            t.place,
+            t.st,
+            t.to,
+            want,
+        );
+    }
+    Spot {
+        place: t.place,
+        way: t.way,
+        to: t.to,
+    }
+}
+
 // The record that the word is of, in the List of statements at `list`.
 pub fn find_stmt(
     scope: &mut [usize],
@@ -437,63 +515,11 @@ pub fn find_stmt(
     let mut d = depth;
     let mut t = block(list, end, st);
     while d != 0 {
-        let b = step_block(
-            scope,
-            img,
-            tables,
-            notes,
-            rules,
-            d,
-            t.place,
-            t.st,
-            t.to,
-            want,
-        );
+        t = step_list(scope, img, tables, notes, rules, d, t, want);
         d -= 1;
-        if b.way != STMT {
-            return Spot {
-                place: b.place,
-                way: seek::PLAIN,
-                to: 0,
-            };
-        }
-        t = step_stmt(
-            scope,
-            img,
-            tables,
-            notes,
-            rules,
-            d,
-            b.place,
-            b.st,
-            b.to,
-            want,
-        );
-        if t.way == seek::VALUE {
-            return seek::find_expr(
-                img,
-                tables,
-                notes,
-                scope,
-                rules,
-                d,
-                t.place,
-                t.st,
-                t.to,
-                want,
-            );
-        }
         if t.way != seek::BLOCK {
-            return Spot {
-                place: t.place,
-                way: t.way,
-                to: t.to,
-            };
+            return settle(img, tables, notes, scope, rules, d, t, want);
         }
     }
-    Spot {
-        place: t.place,
-        way: seek::PLAIN,
-        to: 0,
-    }
+    settle(img, tables, notes, scope, rules, d, t, want)
 }
