@@ -3,36 +3,39 @@
 --     Rest          whatever is found in the rest of a List is found in all of it: rest-begin, rest-go, rest-in, rest-last, rest-end
 --     falls-absent, falls-ready, falls-in      a step down from a List, by its statement
 --     Down          whatever is found in the List that t leads to is found in the whole: down-begin, down-go, down-settled, down-end
+--     alone-ready, alone-counted         a statement by itself is a List of one
 --     kind-in, kind-own, kind-ready      by its number
 -- Assumes nothing.
 use mathlib.Core.Path.{_≡_, refl, sym, ap, _∙_, subst}
 use mathlib.Core.Bool.{Bool, true, false}
-use mathlib.Core.List.{List, [], _∷_}
+use mathlib.Core.List.{List, [], _∷_, _++_}
 use Prim.Native.Nat.{ℕ, zero, suc, _+_, _-_, _%_, _≤_, _<_}
 use native.Mathlib.Omega.{arith}
 use lib.Dec.{ltb}
-use lib.ListN.{length, getD, set}
+use lib.ListN.{length, length-append, getD, set}
 use Rattle.isa.specs.declared.Opcode.the-variants as op
 use Rattle.rules.specs.Bytes.{inside, after, kindAt}
 use Rattle.rules.specs.Machine.{Imm}
 use Rattle.rules.specs.Tree.{Stmt, Stmts, Contract}
 use Rattle.rules.specs.Read.{when, exprAt, exprsFrom, StmtKind, sEmit, sOther, stmtKindOf, stmtsFrom, stmtAs, stmtAt, bodyAt, second, contractAt}
-use Rattle.rules.specs.Refusal.{Res}
+use Rattle.rules.specs.Refusal.{Res, ok}
 use Rattle.rules.specs.Emit.{Rules as Target, Open, Scope, emit}
 use Rattle.bounds.specs.Sizes.{vars, vars-stmts}
 use Rattle.emit.specs.declared.St.{St}
 use Rattle.emit.specs.declared.Rules.{Rules}
-use Rattle.emit.specs.Steps.{Out, _>>=_, done, Here, gen-logs, gen-stmt, gen-stmts}
+use Rattle.emit.specs.Steps.{Out, after as then, _>>=_, done, Here, gen-logs, gen-stmt, gen-stmts}
+use Rattle.emit.specs.Sinks.{Sinks}
+use Rattle.emit.specs.Ran.{raw, Tally}
 use Rattle.emit.specs.State.{rulesOf, tally, Keeps}
 use Rattle.expr.specs.Scope.{scopeIn}
 use Rattle.stmt.specs.Frame.{Ready, Frame}
-use Rattle.stmt.specs.Runs.{here, taken}
+use Rattle.stmt.specs.Runs.{here, taken, DoesAll}
 use Rattle.stmt.proofs.Names.{put-back, fewer}
-use Rattle.stmt.proofs.Lists.{exprs-none, exprs-more, stmts-none, stmts-more}
+use Rattle.stmt.proofs.Lists.{goes-on, exprs-none, exprs-more, stmts-none, stmts-more}
 use Rattle.stmt.proofs.Trees.{other}
 use Rattle.seek.specs.declared.Spot.{Spot}
 use Rattle.seek.specs.declared.Step.{Step}
-use Rattle.seek.specs.Goes.{Goes, goes-word}
+use Rattle.seek.specs.Goes.{Goes, ran-goes, goes-word}
 use Rattle.seek.specs.Found.{Found, found-first, found-later, found-none, each-none, each-more, Own, found-own, own-say, own-done, own-then, long-done}
 use Rattle.seek.specs.Spots.{plain, spotOf, told, owned, into, Counts}
 use Rattle.seek.specs.Parts.{is-found, into-first}
@@ -151,6 +154,34 @@ rest-end {img} {t} {N} {s₀} {R} {d} {e} {p₀} {st} {want} {s} {p} {l} {end} L
   ready = λ w. absurd (omega (arith, sym (ap (λ (x : Step). x .way) q) ∙ w));
   absent = λ a w. record { found = rw (← hp, ← he) (L .all-of a end (rw (stmts-none img (stmtAt d img) 65536 p e b) (found-none _))) };
 }
+
+-- Nothing is done behind it.
+goes-single : {s r : Tally} {v : Here} {m : Res (Out Here)} → Goes s r v (m >>= λ d. done (here (d .scope) (d .next))) → Goes s r v m
+unfolding _>>=_ then done
+goes-single {s} {r} {v} {m} g = record {
+  on = λ fine o e low.
+      let l = length-append (o .words) [] in
+      let h = g .on fine (record { val = o .val; words = o .words ++ [] }) (ap (λ (n : Res (Out Here)). n >>= λ d. done (here (d .scope) (d .next))) e) (omega (arith, low, l)) in
+      (h .0, h .1, omega (arith, h .2, l));
+}
+
+-- A statement by itself is a List of one.
+module _ (img : List ℕ) (d i : ℕ) {x : ℕ} (small : length img ≤ 65536) (here-is : i < length img) (e : x ≡ after img i) (fits : x ≤ length img) where
+  alone : stmtsFrom 65536 (stmtAt d img) img i x ≡ Stmts.more (stmtAt d img i) Stmts.none
+  alone =
+      let g = goes-on img i (length img) here-is (omega arith) in
+      stmts-more img (stmtAt d img) 65536 i x (omega (arith, g, e)) fits (omega (arith, small, fits)) ∙ ap (Stmts.more (stmtAt d img i)) (stmts-none img (stmtAt d img) 65536 (after img i) x (omega (arith, e)))
+
+  pub alone-ready : {t N s : List ℕ} → Ready img t N s (vars (stmtAt d img i)) → Ready img t N s (vars-stmts (stmtsFrom 65536 (stmtAt d img) img i x))
+  unfolding vars-stmts
+  alone-ready h = rw alone (fewer h (omega arith))
+
+  pub alone-counted : {R : Rules} {st r : St} {c c' : Sinks} {s s' : List ℕ} → DoesAll R img (stmtsFrom 65536 (stmtAt d img) img i x) st c s r c' s' → Counted R img d i st s r s'
+  unfolding gen-stmts vars-stmts
+  alone-counted h =
+      let f = h .frame in
+      let most = rw alone at (f .most) in
+      record { goes = goes-single (ran-goes (raw (contractAt img)) (rw alone at (h .ran))); frame = record { least = f .least; most = omega (arith, most); kept = f .kept } }
 
 -- A statement by its kind.
 module _ (img : List ℕ) (d i : ℕ) {k : ℕ} (K : StmtKind) (e : k ≡ kindAt img i) (f : stmtKindOf k ≡ K) where

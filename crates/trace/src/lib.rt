@@ -4,8 +4,9 @@
 // A statement is counted by generating it once more (crate stmt); what stands behind everything else is not, since the end is known. The scope is
 // lent: where the walk goes back to the start of a part, the count of names is put back.
 ghost use mathlib.Core.Path.{_≡_};
-ghost use Prim.Native.Nat.{suc, _+_};
+ghost use Prim.Native.Nat.{suc, _+_, _<_};
 ghost use lib.Dec.{leb};
+ghost use lib.ListN.{length};
 ghost use Rattle.rules.specs.Read.{stmtAt, bodyAt, elseAt, sMapping, sIf, sWhile, sFor, sReturn, sEmit};
 ghost use Rattle.bounds.specs.Sizes.{vars, vars-stmts};
 ghost use Rattle.notes.specs.Notes.{Known};
@@ -65,12 +66,12 @@ fn count_stmt(
     at: usize,
     st: St,
 ) -> St
-    requires { ⌜ Ready (now img) (now tables) (now notes) (now scope) (vars (stmtAt d (now img) at)) ⌝ }
+    requires { ⌜ Ready (now img) (now tables) (now notes) (now scope) (vars (stmtAt d (now img) at)) × (at < length (now img)) ⌝ }
     ensures { λ r. ⌜ Counted rules (now (img .entry)) d at st (now (scope .entry)) r (now (scope .exit)) ⌝ }
 {
     let mut code = [0u64; 1];
     let mut bytes = [0u8; 1];
-    stmt::gen_stmt(
+    stmt::gen_stmts(
         &mut code,
         &mut bytes,
         scope,
@@ -80,6 +81,7 @@ fn count_stmt(
         rules,
         d,
         at,
+        records::past(img, at),
         st,
     )
 }
@@ -109,7 +111,8 @@ fn count_stmts(
         notes,
         rules,
         d,
-        list,
+        records::body(img, list),
+        records::past(img, list),
         st,
     )
 }

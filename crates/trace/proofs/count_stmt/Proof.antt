@@ -1,32 +1,35 @@
 -- `count_stmt` meets its contract.
 -- Assumes nothing.
 use borrow.Author.Needs.{needs}
-use Rattle.emit.specs.Ran.{raw}
-use Rattle.seek.specs.Goes.{ran-goes}
+use Rattle.trace.specs.Lists.{alone-counted, alone-ready}
 use Rattle.trace.proofs.count_stmt.Statement.{statement}
 use Rattle.trace.proofs.count_stmt.Tie as tie
 
-slice-aggregate-gen-stmt : tie.Need-slice-aggregate-gen-stmt
-slice-aggregate-gen-stmt c = search needs
+slice-aggregate-gen-stmts : tie.Need-slice-aggregate-gen-stmts
+slice-aggregate-gen-stmts c = search needs
 
-slice-aggregate-gen-stmt-2 : tie.Need-slice-aggregate-gen-stmt-2
-slice-aggregate-gen-stmt-2 c = search needs
+slice-aggregate-gen-stmts-2 : tie.Need-slice-aggregate-gen-stmts-2
+slice-aggregate-gen-stmts-2 c = search needs
 
-gen-stmt-requires : tie.Need-gen-stmt-requires
-gen-stmt-requires c κs = c .before .before .before .before .before .before .pre
+past-requires : tie.Need-past-requires
+past-requires c κs = search needs
+
+gen-stmts-requires : tie.Need-gen-stmts-requires
+gen-stmts-requires c κs = (alone-ready (c .before .before .before .before .before .before .before .args .img .now) (c .before .before .before .before .before .before .before .args .d) (c .before .before .before .before .before .before .before .args .at) (c .before .before .before .before .before .before .before .pre .0 .known .0 .small) (c .before .before .before .before .before .before .before .pre .1) (c .past .ensures .0) (c .past .ensures .1) (c .before .before .before .before .before .before .before .pre .0), c .past .ensures .1)
 
 same-length : tie.Need-same-length
-same-length c = c .before .before .before .before .gen-stmt .kept .1 .1 .0
+same-length c = c .before .before .before .before .gen-stmts .kept .1 .1 .0
 
 returns : tie.Need-returns
-returns c = record { goes = ran-goes (raw _) (c .before .before .before .before .gen-stmt .ensures .ran); frame = c .before .before .before .before .gen-stmt .ensures .frame }
+returns c = alone-counted (c .before .before .before .before .before .before .before .before .before .before .before .before .args .img .now) (c .before .before .before .before .before .before .before .before .before .before .before .before .args .d) (c .before .before .before .before .before .before .before .before .before .before .before .before .args .at) (c .before .before .before .before .before .before .before .before .before .before .before .before .pre .0 .known .0 .small) (c .before .before .before .before .before .before .before .before .before .before .before .before .pre .1) (c .before .before .before .before .before .past .ensures .0) (c .before .before .before .before .before .past .ensures .1) (c .before .before .before .before .gen-stmts .ensures)
 
 pub count-stmt-spec : {M : Type 1} → statement M
 count-stmt-spec =
     tie.close
     (tie.spec
-    slice-aggregate-gen-stmt
-    slice-aggregate-gen-stmt-2
-    gen-stmt-requires
+    slice-aggregate-gen-stmts
+    slice-aggregate-gen-stmts-2
+    past-requires
+    gen-stmts-requires
     same-length
     returns)

@@ -12,14 +12,20 @@ slice-aggregate-gen-stmts c = search needs
 slice-aggregate-gen-stmts-2 : tie.Need-slice-aggregate-gen-stmts-2
 slice-aggregate-gen-stmts-2 c = search needs
 
+body-requires : tie.Need-body-requires
+body-requires c κs = search needs
+
+past-requires : tie.Need-past-requires
+past-requires c κs = search needs
+
 gen-stmts-requires : tie.Need-gen-stmts-requires
-gen-stmts-requires c κs = c .before .before .before .before .before .before .pre
+gen-stmts-requires c κs = (rw (c .before .body .ensures .0, c .past .ensures .0) (c .before .before .before .before .before .before .before .before .pre), c .past .ensures .1)
 
 same-length : tie.Need-same-length
 same-length c = c .before .before .before .before .gen-stmts .kept .1 .1 .0
 
 returns : tie.Need-returns
-returns c = record { goes = ran-goes (raw _) (c .before .before .before .before .gen-stmts .ensures .ran); frame = c .before .before .before .before .gen-stmts .ensures .frame; grows = c .before .before .before .before .gen-stmts .ensures .ran .grows }
+returns c = record { goes = ran-goes (raw _) (rw (c .before .before .before .before .before .before .body .ensures .0, c .before .before .before .before .before .past .ensures .0) at (c .before .before .before .before .gen-stmts .ensures .ran)); frame = rw (c .before .before .before .before .before .before .body .ensures .0, c .before .before .before .before .before .past .ensures .0) at (c .before .before .before .before .gen-stmts .ensures .frame); grows = c .before .before .before .before .gen-stmts .ensures .ran .grows }
 
 pub count-stmts-spec : {M : Type 1} → statement M
 count-stmts-spec =
@@ -27,6 +33,8 @@ count-stmts-spec =
     (tie.spec
     slice-aggregate-gen-stmts
     slice-aggregate-gen-stmts-2
+    body-requires
+    past-requires
     gen-stmts-requires
     same-length
     returns)

@@ -41,7 +41,7 @@ slice-read-mark : tie.Need-slice-read-mark Inv-loop μ-loop
 slice-read-mark c = omega (arith, c .before .before .before .before .loop .inv .ready .size)
 
 count-stmt-requires : tie.Need-count-stmt-requires Inv-loop μ-loop
-count-stmt-requires c κs = rest-ready (c .before .before .before .before .before .loop .inv) (c .before .before .before .before .before .before .before .before .before .before .before .pre .known .0 .small) (c .before .before .before .before .before .before .before .past .ensures .1) (c .before .before .before .before .loop-test .taken)
+count-stmt-requires c κs = (rest-ready (c .before .before .before .before .before .loop .inv) (c .before .before .before .before .before .before .before .before .before .before .before .pre .known .0 .small) (c .before .before .before .before .before .before .before .past .ensures .1) (c .before .before .before .before .loop-test .taken), omega (arith, c .before .before .before .before .before .before .before .past .ensures .1, c .before .before .before .before .loop-test .taken))
 
 slice-write-scope : tie.Need-slice-write-scope Inv-loop μ-loop
 slice-write-scope c = omega (arith, c .before .before .before .before .before .before .before .before .before .before .loop .inv .ready .size, c .before .before .before .before .count-stmt .kept .0)
