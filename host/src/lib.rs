@@ -4,7 +4,8 @@
 //! that is lent are those of its definition (`crates/rules/specs/Build.antt`, `hostOf` and `hostBytes`). It needs no heap, keeps no
 //! state and takes less than 96 KiB of stack, so it may be called from any number of threads at once. No function here panics.
 //! A refusal has the old Rust compiler's own text, where there is one ([`Refusal::text`]; `crates/rules/specs/Texts.antt`), and a word
-//! the record that asked for it ([`why`]; `crates/rules/specs/Why.antt`).
+//! the record that asked for it ([`why`]; `crates/rules/specs/Why.antt`). Words of any assembler are listed with a mark where bits 55 to 63 are
+//! not zero ([`lines`]; `crates/rules/specs/Lines.antt`).
 //!
 //! From a tree:
 //!
@@ -198,6 +199,25 @@ pub struct Why {
 pub fn why(image: &[u8], index: u64) -> Result<Why, Refusal> {
     let (place, count) = Refusal::unpack(raw::why(image, index), image)?;
     Ok(Why { place, target: count.checked_sub(1).map(u64::from) })
+}
+
+/// The lines of a listing: for each word its index, a space, 16 hex digits, and a space and `+` where bits 55 to 63 are not zero.
+///
+/// The words are 8 little-endian bytes each, the first with the index `first`, whether their low bytes are opcodes or not; bytes behind the last
+/// whole word are left out. An index has 64 bits.
+///
+/// ```
+/// let words: Vec<u8> = [0x13, 1 << 55 | 0x13].iter().flat_map(|w: &u64| w.to_le_bytes()).collect();
+/// assert_eq!(haspnettle::lines(9, &words), "9 0000000000000013\n10 0080000000000013 +\n");
+/// ```
+pub fn lines(first: u64, words: &[u8]) -> String {
+    const BLOCK: usize = 256;
+    let (mut all, mut out) = (String::new(), [0; 40 * BLOCK]);
+    for (block, words) in words.chunks(8 * BLOCK).enumerate() {
+        let count = raw::lines(first.wrapping_add((BLOCK * block) as u64), words, &mut out) as usize;
+        all += &String::from_utf8_lossy(&out[..count]);
+    }
+    all
 }
 
 // What `build` leaves in a slice of so many words; where 50 tells that they are more, in one of just so many.

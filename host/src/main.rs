@@ -1,4 +1,4 @@
-//! The program `haspnettle`: what the crate says of an image in a file.
+//! The program `haspnettle`: what the crate says of an image, or of words, in a file.
 #![forbid(unsafe_code)]
 
 mod program {
@@ -6,9 +6,9 @@ mod program {
     pub mod files;
 }
 
-use haspnettle::{build_image, record, why, Refusal};
+use haspnettle::{build_image, lines, record, why, Refusal};
 use program::asked::{asked, Asked};
-use program::files::{read, write};
+use program::files::{print, read, write, Input};
 use std::ffi::{OsStr, OsString};
 use std::fmt::Display;
 use std::io::Write;
@@ -52,20 +52,17 @@ fn run(args: impl Iterator<Item = OsString>) -> Result<(), Stop> {
         Asked::Build { image, file } => build(&image, file.as_deref()),
         Asked::Text { image } => text(&image),
         Asked::Why { image, index } => whys(&read(&image)?, index),
+        Asked::Words { file } => words(&mut Input::open(&file)?),
     }
 }
 
 fn build(image: &OsStr, file: Option<&OsStr>) -> Result<(), Stop> {
     let words = build_image(&read(image)?)?;
+    let bytes: Vec<_> = words.iter().flat_map(|w| w.to_le_bytes()).collect();
     match file {
-        None => write("-", listing(&words).as_bytes()),
-        Some(file) => write(file, &words.iter().flat_map(|w| w.to_le_bytes()).collect::<Vec<_>>()),
+        None => write("-", format!("words {}\n{}", words.len(), lines(0, &bytes)).as_bytes()),
+        Some(file) => write(file, &bytes),
     }
-}
-
-fn listing(words: &[u64]) -> String {
-    let lines = words.iter().enumerate().map(|(i, word)| format!("{i} {word:016x}\n"));
-    format!("words {}\n{}", words.len(), lines.collect::<String>())
 }
 
 fn text(image: &OsStr) -> Result<(), Stop> {
@@ -92,4 +89,20 @@ fn line(image: &[u8], index: u64) -> Result<String, Stop> {
     let function = function.map_or(String::new(), |name| format!(" in {name}"));
     let patched = why.target.map_or(String::new(), |target| format!(", patched, leads to {target}"));
     Ok(format!("{index} {kind} at {}{function}{patched}\n", why.place))
+}
+
+// A block at a time, so that any number of words takes the same memory.
+fn words(input: &mut Input) -> Result<(), Stop> {
+    const BLOCK: u64 = 1 << 16;
+    for block in 0.. {
+        let bytes = input.next(BLOCK)?;
+        let heard = print(lines(BLOCK / 8 * block, &bytes).as_bytes())?;
+        match (bytes.len() as u64 == BLOCK, bytes.len() % 8) {
+            _ if !heard => break,
+            (true, _) => continue,
+            (_, 0) => break,
+            (_, left) => return Err(Stop { status: 1, line: format!("haspnettle: bytes behind the last whole word: {left}\n") }),
+        }
+    }
+    Ok(())
 }

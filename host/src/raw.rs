@@ -9,6 +9,8 @@ extern "C" {
     fn host_text(image: *const u8, image_len: usize, out: *mut u8, out_len: usize) -> u64;
     /// `#[no_mangle] pub extern "C" fn host_why(image: &[u8], index: u64) -> u64` of crate `host`.
     fn host_why(image: *const u8, image_len: usize, index: u64) -> u64;
+    /// `#[no_mangle] pub extern "C" fn host_lines(first: u64, words: &[u8], out: &mut [u8]) -> u64` of crate `host`.
+    fn host_lines(first: u64, words: *const u8, words_len: usize, out: *mut u8, out_len: usize) -> u64;
 }
 
 /// Refusal + 256 x place + 2^32 x count.
@@ -39,9 +41,16 @@ pub fn why(image: &[u8], index: u64) -> u64 {
     unsafe { host_why(image.as_ptr(), image.len(), index) }
 }
 
+/// The bytes that the lines take, 40 at most for each word.
+pub fn lines(first: u64, words: &[u8], out: &mut [u8]) -> u64 {
+    // SAFETY: as for `host_build`: two slices that are live and apart, and a function that keeps neither pointer, reads the one, writes
+    // within the other, takes any bytes, any lengths and any index, and does not unwind (its proof).
+    unsafe { host_lines(first, words.as_ptr(), words.len(), out.as_mut_ptr(), out.len()) }
+}
+
 #[cfg(test)]
 mod tests {
-    use super::text;
+    use super::{lines, text};
     use crate::guard::{lent, POISON};
     use crate::{image, tree::*};
 
@@ -72,6 +81,19 @@ mod tests {
             }
             let bytes = [&says[..], &vec![POISON; len - says.len()]].concat();
             assert_eq!(lent(len, |out| text(&lost, out)), (10 + (78 << 8) + ((says.len() as u64) << 32), bytes));
+        }
+    }
+
+    #[test]
+    fn lines_go_as_far_as_words_and_room() {
+        let words: Vec<u8> = [0x13, u64::MAX, 1 << 54].iter().flat_map(|w| w.to_le_bytes()).collect();
+        let all = ["18446744073709551614 0000000000000013\n", "18446744073709551615 ffffffffffffffff +\n", "0 0040000000000000\n"];
+        for bytes in 0..=words.len() {
+            for room in [0, 1, 39, 40, 79, 80, 119, 120, 121] {
+                let says = all[..(bytes / 8).min(room / 40)].concat();
+                let left = [says.as_bytes(), &vec![POISON; room - says.len()]].concat();
+                assert_eq!(lent(room, |out| lines(u64::MAX - 1, &words[..bytes], out)), (says.len() as u64, left));
+            }
         }
     }
 }

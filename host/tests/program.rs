@@ -144,6 +144,46 @@ fn every_word_is_told_of() {
     }
 }
 
+// Words with a known opcode and none, with bits 54, 55 and 63, over and over: as bytes, and the lines that are due.
+fn flagged(count: usize) -> (Vec<u8>, String) {
+    let words = [0x13, 0x1F, 1 << 54 | 0x14, 1 << 55 | 0x12, 1 << 63, u64::MAX, 0x0123_4567_89AB_CDEF, 0];
+    let (mut bytes, mut lines) = (vec![], String::new());
+    for (index, word) in words.into_iter().cycle().take(count).enumerate() {
+        bytes.extend(word.to_le_bytes());
+        lines += &format!("{index} {word:016x}{}\n", if word < 1 << 55 { "" } else { " +" });
+    }
+    (bytes, lines)
+}
+
+#[test]
+fn words_are_listed_with_what_is_on_top() {
+    let folder = folder("flagged");
+    for count in [0, 1, 8, 255, 256, 257, 8191, 8192, 8193, 30_000] {
+        let (mut bytes, lines) = flagged(count);
+        for left in 0..8 {
+            let due = match left {
+                0 => end(0, &lines, ""),
+                _ => end(1, &lines, &format!("haspnettle: bytes behind the last whole word: {left}\n")),
+            };
+            fs::write(folder.join("there"), &bytes).unwrap();
+            assert_eq!(within(&folder, &["words", "there"]), due);
+            assert_eq!(run(program(&["words", "-"]).stdin(File::open(folder.join("there")).unwrap())), due);
+            bytes.push(0xFF);
+        }
+    }
+}
+
+#[test]
+fn the_words_of_a_build_have_nothing_on_top() {
+    let folder = folder("plain");
+    for name in samples().into_iter().filter(|name| listed(name).is_ok()) {
+        assert_eq!(within(&folder, &["build", &at(&format!("{name}.img")), "-o", "there"]), end(0, "", ""));
+        let listing = String::from_utf8(sample(&format!("{name}.listing"))).unwrap();
+        let (_, lines) = listing.split_once('\n').unwrap();
+        assert_eq!(within(&folder, &["words", "there"]), end(0, lines, ""));
+    }
+}
+
 #[test]
 fn standard_input_is_an_image() {
     assert_eq!(fed(&["build", "-"], &sample("c1.img"), true), end(0, sample("c1.listing"), ""));
@@ -229,6 +269,8 @@ fn what_is_no_file_is_told() {
         (vec!["build", "none"], "cannot read \"none\": No such file or directory (os error 2)"),
         (vec!["text", "none"], "cannot read \"none\": No such file or directory (os error 2)"),
         (vec!["why", "none", "0"], "cannot read \"none\": No such file or directory (os error 2)"),
+        (vec!["words", "none"], "cannot read \"none\": No such file or directory (os error 2)"),
+        (vec!["words", "."], "cannot read \".\": Is a directory (os error 21)"),
         (vec!["build", "."], "cannot read \".\": Is a directory (os error 21)"),
         (vec!["build", c1, "-o", "none/new"], "cannot write \"none/new\": No such file or directory (os error 2)"),
         (vec!["build", c1, "-o", "there/new"], "cannot write \"there/new\": Not a directory (os error 20)"),
@@ -249,6 +291,10 @@ fn a_closed_pipe_is_quiet() {
     assert_eq!(fed(&["build", "-", "-o", "-"], &sample("land_mask.img"), false), end(0, "", ""));
     assert_eq!(fed(&["text", "-"], &lost(), false), end(1, "", LOST));
     assert_eq!(fed(&["why", "-", "--all"], &sample("land_mask.img"), false), end(0, "", ""));
+    // Words without end are listed as long as someone reads.
+    let mut endless = program(&["words", "/dev/zero"]).spawn().unwrap();
+    drop(endless.stdout.take());
+    assert_eq!(ended(endless), end(0, "", ""));
 }
 
 #[test]
@@ -257,7 +303,14 @@ fn a_full_device_is_told() {
     let full = || File::create("/dev/full").unwrap();
     let line = "haspnettle: cannot write standard output: No space left on device (os error 28)\n";
     let c1 = &at("c1.img");
-    for args in [vec!["build", c1], vec!["build", c1, "-o", "-"], vec!["text", "lost"], vec!["why", c1, "0"], vec!["--help"]] {
+    for args in [
+        vec!["build", c1],
+        vec!["build", c1, "-o", "-"],
+        vec!["text", "lost"],
+        vec!["why", c1, "0"],
+        vec!["words", "/dev/zero"],
+        vec!["--help"],
+    ] {
         assert_eq!(run(program(&args).current_dir(&folder).stdout(full())), end(2, "", line));
     }
     // Nobody can be told, and the status stands.
@@ -267,7 +320,8 @@ fn a_full_device_is_told() {
 #[test]
 fn wrong_arguments_are_told() {
     let (build, text, why) = ("haspnettle build IMAGE [-o FILE]", "haspnettle text IMAGE", "haspnettle why IMAGE INDEX|--all");
-    let all = &format!("{build}, or {text}, or {why}")[..];
+    let words = "haspnettle words FILE";
+    let all = &format!("{build}, or {text}, or {why}, or {words}")[..];
     for (args, what, usage) in [
         (vec![], "no command", all),
         (vec!["list", "a"], "no command \"list\"", all),
@@ -297,6 +351,9 @@ fn wrong_arguments_are_told() {
         (vec!["why", "a", "0x6"], "INDEX \"0x6\" is no number below 2^64", why),
         (vec!["why", "a", "6\n"], "INDEX \"6\\n\" is no number below 2^64", why),
         (vec!["why", "a", "18446744073709551616"], "INDEX \"18446744073709551616\" is no number below 2^64", why),
+        (vec!["words"], "no FILE", words),
+        (vec!["words", "a", "b"], "a second FILE, \"b\"", words),
+        (vec!["words", "a", "-o", "b"], "unknown option \"-o\"", words),
     ] {
         assert_eq!(said(&args), end(2, "", &format!("haspnettle: {what}; usage: {usage}\n")));
     }
@@ -305,7 +362,7 @@ fn wrong_arguments_are_told() {
 #[test]
 fn help_is_printed() {
     let (build, text) = ("usage: haspnettle build IMAGE [-o FILE]\n", "usage: haspnettle text IMAGE\n");
-    let why = "usage: haspnettle why IMAGE INDEX|--all\n";
+    let (why, words) = ("usage: haspnettle why IMAGE INDEX|--all\n", "usage: haspnettle words FILE\n");
     for help in ["-h", "--help"] {
         for (args, first) in [
             (vec![help], build),
@@ -314,6 +371,7 @@ fn help_is_printed() {
             (vec!["text", help], text),
             (vec!["why", help], why),
             (vec!["why", "a", "b", help], why),
+            (vec!["words", help], words),
         ] {
             let (status, out, err) = said(&args);
             assert_eq!((status, &err[..]), (0, ""));

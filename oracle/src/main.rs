@@ -4,6 +4,7 @@ extern crate self as bud_isa; // codegen.rs names the word crate so
 mod accesses;
 mod analysis;
 mod apart;
+mod ask;
 mod bench;
 mod bounds;
 mod cases;
@@ -29,6 +30,7 @@ mod selfcheck;
 mod store;
 mod texts;
 mod tricks;
+mod words;
 
 // The crate's own: its writer, and what its tests build trees with.
 #[path = "../../host/tests/common/edges.rs"]
@@ -67,7 +69,7 @@ pub use isa::{Instruction, IsaProfile, Opcode};
 use std::process::exit;
 
 const USE: &str = "use: oracle [selfcheck [accesses] N | gen SEED COUNT DIR | answer FILE [ROOM TABLE] | analyse FILE | text FILE | \
-why FILE [INDEX] | listing PROGRAM N [SEED] | staticlib [accesses] N [SEED] | whys FILE | bench [ROUNDS] | store DIR | replay FILE | \
+why FILE [INDEX] | listing PROGRAM N [SEED] | words N SEED PROGRAM.. | staticlib [accesses] N [SEED] | whys FILE | bench [ROUNDS] | store DIR | replay FILE | \
 samples DIR | kept]";
 
 type Said = Result<(), String>;
@@ -95,6 +97,7 @@ fn command(words: &[&str]) -> Said {
         ["why", file, index] => why(file, Some(number(index)?)),
         ["listing", program, n] => selfcheck::listing(program, number(n)?, 0),
         ["listing", program, n, seed] => selfcheck::listing(program, number(n)?, number(seed)?),
+        ["words", n, seed, program @ ..] => words::compare(number(n)?, number(seed)?, program),
         ["staticlib", "accesses", n] => foreign::compare(number(n)?, 0, accesses::image),
         ["staticlib", "accesses", n, seed] => foreign::compare(number(n)?, number(seed)?, accesses::image),
         ["staticlib", n] => foreign::compare(number(n)?, 0, cases::image),

@@ -1,11 +1,10 @@
 // The model against the Rust over many seeds, and a listing program against the model.
+use crate::ask::ask;
 use crate::image::{is_leaf, rec_at, Rec};
 use crate::model::{build, host, was_30, Answer};
 use crate::samples::{ROOM, TABLE};
 use crate::{bounds, cases, compare, meant, samples, store, texts};
 use std::collections::BTreeMap;
-use std::io::Write;
-use std::process::{Command, Stdio};
 
 /// Every number of document 01 that an answer can have.
 pub const EVERY: [u32; 32] =
@@ -130,7 +129,7 @@ pub fn listing(program: &str, n: u64, seed: u64) -> Result<(), String> {
     let edges = bounds::all().into_iter().map(|e| (e.0.to_string(), e.1));
     let seeds = (seed..seed + n).map(|s| (format!("seed {s}"), cases::image(s)));
     for (what, img) in edges.chain(seeds) {
-        let said = ask(program, &img)?;
+        let said = ask(&[program], &img)?.stdout;
         if said != store::listing(&img, ROOM, TABLE).as_bytes() {
             let said = String::from_utf8_lossy(&said).lines().next().unwrap_or("").to_string();
             return Err(format!("{what}: the program differs (it begins \"{said}\"); image {}", compare::hex(&img)));
@@ -138,16 +137,4 @@ pub fn listing(program: &str, n: u64, seed: u64) -> Result<(), String> {
     }
     println!("{n} seeds and every edge: every listing equal");
     Ok(())
-}
-
-fn ask(program: &str, img: &[u8]) -> Result<Vec<u8>, String> {
-    let fail = |e| format!("{program}: {e}");
-    let mut child = Command::new(program).stdin(Stdio::piped()).stdout(Stdio::piped()).spawn().map_err(fail)?;
-    let mut input = child.stdin.take().expect("a pipe");
-    let bytes = img.to_vec();
-    // A program may stop reading early: what it printed decides.
-    let feeder = std::thread::spawn(move || _ = input.write_all(&bytes));
-    let out = child.wait_with_output().map_err(fail)?;
-    feeder.join().map_err(|_| format!("{program}: its input broke"))?;
-    Ok(out.stdout)
 }

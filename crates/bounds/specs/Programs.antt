@@ -1,10 +1,11 @@
--- What is known of every program that an image comes to: it is short, and each word of it has a number.
+-- What is known of every program that an image comes to: it is short, and each word of it has a number, without top bits.
 -- Assumes nothing.
 use mathlib.Core.Path.{_≡_, sym, subst}
 use mathlib.Core.List.{List, map}
 use Prim.Native.Nat.{ℕ, _+_, _≤_, _<_}
 use native.Mathlib.Omega.{arith}
 use lib.ListN.{length}
+use Rattle.isa.specs.Word.{topOf}
 use Rattle.rules.specs.declared.Seen.the-variants.{Sound}
 use Rattle.rules.specs.Bytes.{Name}
 use Rattle.rules.specs.Tree.{Contract}
@@ -18,7 +19,7 @@ use Rattle.rules.specs.Link.{Built, Program, functions, generate}
 use Rattle.rules.specs.Build.{judged, program, wordsOf}
 use Rattle.bounds.specs.Answers.{All, from-ok, all-bind, all-map}
 use Rattle.bounds.specs.Held.{Each}
-use Rattle.bounds.specs.Numbers.{Encodable, all-read-back}
+use Rattle.bounds.specs.Numbers.{Encodable, all-no-top, all-read-back}
 use Rattle.bounds.specs.Ranges.{Ranged, firsts-up, functions-fine, program-fine}
 use Rattle.bounds.specs.Cuts.{cut, offset-small}
 use Rattle.bounds.specs.Contracts.{nodes-few}
@@ -63,3 +64,8 @@ unfolding program
 program-bounded R h img P e = from-ok (subst (All (λ (P : Program). Bounded P)) e
     (all-bind (judged img) _ (said-all (judged-plain img)) (λ C c.
     subst (λ (D : Contract). All (λ (P : Program). Bounded P) (generate R D)) (sym (c .is)) (generated R h img (c .end) (c .names) (c .sound)))))
+
+-- 02: P3: no word of it has top bits.
+pub program-no-top : (R : Rules) → R .free ≤ 30 → (img : List ℕ) (P : Program) → program R img ≡ ok P → (i n : ℕ) → At (wordsOf P) i n → topOf n ≡ 0
+unfolding wordsOf
+program-no-top R h img P e = all-no-top (P .words) (program-bounded R h img P e .encodable)

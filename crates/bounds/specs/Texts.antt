@@ -31,7 +31,7 @@ unfolding digits
 digits-few zero n = omega arith
 digits-few (suc k) n = omega (arith, higher-few k (digits k) (digits-few k) (n / 10), length-append (higher (digits k) (n / 10)) ((48 + n % 10) ∷ []))
 
-decimal-few : (n : ℕ) → length (decimal n) ≤ 20
+pub decimal-few : (n : ℕ) → length (decimal n) ≤ 20
 unfolding decimal
 decimal-few n = digits-few 20 n
 

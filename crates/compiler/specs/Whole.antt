@@ -1,16 +1,18 @@
 -- All of both slices after a build, said of whatever meets `Built` (01: What comes back).
 --     refused-zero     a refusal other than 0: every number of both slices is zero
 --     rest-lent        0: both are as lent past the words and past the entries of the contract's functions
+--     no-top-bits      0: no word has top bits (02: P3)
 -- Assumes nothing.
 use mathlib.Core.Path.{_≡_, refl, sym, ap, subst, _∙_}
 use mathlib.Core.List.{List}
-use Prim.Native.Nat.{ℕ, _*_}
+use Prim.Native.Nat.{ℕ, _*_, _≤_}
 use native.Mathlib.Omega.{arith}
-use lib.ListN.{length, length-map, replicate}
+use lib.ListN.{length, take, length-map, replicate}
+use Rattle.isa.specs.Word.{topOf}
 use Rattle.rules.specs.declared.Answer.{Answer}
 use Rattle.rules.specs.Read.{contractAt}
 use Rattle.rules.specs.Refusal.{Res, ok, bad}
-use Rattle.rules.specs.Machine.{Entry, numberOf}
+use Rattle.rules.specs.Machine.{Entry, At, numberOf}
 use Rattle.rules.specs.Emit.{Rules}
 use Rattle.rules.specs.Link.{Program}
 use Rattle.rules.specs.Lent.{over, spread}
@@ -19,6 +21,8 @@ use Rattle.lent.specs.Over.{length-spread}
 use Rattle.lent.specs.Rest.{Rest, rest-over, all-zero}
 use Rattle.heights.specs.Theorem.{as-many}
 use Rattle.heights.specs.Accepted.{Fitting, accepted}
+use Rattle.heights.specs.Slices.{wordsIn, Lent, lent}
+use Rattle.bounds.specs.Programs.{program-no-top}
 use Rattle.compiler.specs.Ends.{Built}
 
 three : (e : Entry) → length (threeOf e) ≡ 3
@@ -50,3 +54,12 @@ module _ (R : Rules) (img code table : List ℕ) (a : Answer) (c t : List ℕ) (
             subst (λ (m : ℕ). Rest m code c) n (subst (λ (s : List ℕ). Rest (length (wordsOf P)) code s) c-is (rest-over (wordsOf P) code (omega (arith, w, f .words)))),
             subst (λ (m : ℕ). Rest m table t) k (subst (λ (s : List ℕ). Rest (length (spread threeOf (P .table))) table s) t-is (rest-over (spread threeOf (P .table)) table (omega (arith, k, l, f .table)))),
           )
+
+  pub no-top-bits : R .free ≤ 30 → a .refusal ≡ 0 → (i n : ℕ) → At (take (a .count) c) i n → topOf n ≡ 0
+  unfolding wordsIn
+  no-top-bits few z i n h = by (lent R img code table (sym (ap (λ (x : Answer). x .refusal) (b .answer)) ∙ z))
+    where
+      by : Lent R img code table → topOf n ≡ 0
+      by l =
+          let e : take (a .count) c ≡ wordsOf (l .P) = rw (b .answer, b .words) (l .words) in
+          program-no-top R few img (l .P) (l .is) i n (subst (λ (s : List ℕ). At s i n) e h)

@@ -1,12 +1,12 @@
 -- Words that are no open calls, passed on the way to the next one that is.
---     Shut, ShutIn      word j is none: a number below the least open call; in a buffer of bytes by its top byte
+--     Shut, ShutIn      word j is none: its low byte is an opcode; in a buffer of bytes that is its first
 --     Closed            from an index to r, which is at most the end, there is none: none-yet, pass (n more), next (one more)
 --     along             what a word that is none keeps, they all keep
 -- Assumes nothing.
 use mathlib.Core.Path.{_≡_, refl, subst}
 use mathlib.Core.Bool.{Bool, true, false}
 use mathlib.Core.List.{List}
-use Prim.Native.Nat.{ℕ, _+_, _-_, _*_, _^_, _≤_, _<_}
+use Prim.Native.Nat.{ℕ, _+_, _-_, _*_, _%_, _≤_, _<_}
 use native.Mathlib.Nat.{le-refl}
 use native.Mathlib.Numerals.{add-one}
 use native.Mathlib.Decide.{le-ind}
@@ -16,10 +16,10 @@ use lib.ListN.{getD}
 use borrow.Author.Tests.{leb-true, leb-false}
 
 abbrev pub Shut : (code : List ℕ) (j : ℕ) → Type 0
-Shut c j = getD c j 0 < 2 ^ 63
+Shut c j = getD c j 0 % 256 < 31
 
 abbrev pub ShutIn : (bytes : List ℕ) (j : ℕ) → Type 0
-ShutIn s j = getD s (8 * j + 7) 0 < 128
+ShutIn s j = getD s (8 * j) 0 < 31
 
 abbrev pub Each : (P : ℕ → Type 0) (i n : ℕ) → Type 0
 Each P i n = (k : ℕ) → k < n → P (i + k)

@@ -3,7 +3,7 @@
 -- Assumes nothing.
 use mathlib.Core.Path.{_≡_, refl, sym, ap, _∙_}
 use mathlib.Core.List.{List, [], _∷_, _++_}
-use Prim.Native.Nat.{ℕ, suc, _+_, _-_, _%_, _^_, _<_}
+use Prim.Native.Nat.{ℕ, suc, _+_, _/_, _%_, _^_, _<_}
 use native.Mathlib.Nat.{add-zero, add-suc, suc-add}
 use lib.Dec.{leb, ltb}
 use lib.ListN.{length, getD}
@@ -17,11 +17,11 @@ use Rattle.emit.specs.Ran.{wordOf}
 unfoldable pub distanceTo : (firsts : List ℕ) (own k : ℕ) → ℕ
 distanceTo F i k = pick (ltb k (length F)) (offsetOf (getD F k 0 % 2 ^ 32) (i % 2 ^ 32)) 0
 
--- A word is kept; what has the top bit is an open call.
+-- A word, which has an opcode, is kept, its top bits with it (02: P3); what has none is an open call.
 unfoldable pub linked : (firsts : List ℕ) (own w : ℕ) → ℕ
-linked F i w = pick (leb (2 ^ 63) w) (wordOf op.Call 0 0 0 (distanceTo F i (w - 2 ^ 63))) w
+linked F i w = pick (leb 31 (w % 256)) (wordOf op.Call 0 0 0 (distanceTo F i (w / 256))) w
 
-pub kept-word : (F : List ℕ) (i w : ℕ) → w < 2 ^ 63 → linked F i w ≡ w
+pub kept-word : (F : List ℕ) (i w : ℕ) → w % 256 < 31 → linked F i w ≡ w
 unfolding linked pick
 kept-word F i w h = rw (lt-leb _ _ h) refl
 

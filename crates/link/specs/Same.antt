@@ -6,7 +6,7 @@ use mathlib.Core.Path.{_≡_, refl, ap, subst, _∙_}
 use mathlib.Core.Bool.{Bool, true, false}
 use mathlib.Core.Option.{Option, none, some}
 use mathlib.Core.List.{List, [], _∷_, map}
-use Prim.Native.Nat.{ℕ, suc, _+_, _-_, _%_, _^_, _<_, _≤_}
+use Prim.Native.Nat.{ℕ, suc, _+_, _-_, _*_, _/_, _%_, _^_, _<_, _≤_}
 use native.Mathlib.Omega.{arith}
 use lib.Dec.{leb}
 use lib.ListN.{length, getD}
@@ -17,7 +17,7 @@ use Rattle.isa.specs.declared.Instruction.{Instruction}
 use Rattle.isa.specs.declared.Opcode.{Opcode}
 use Rattle.isa.specs.declared.Opcode.the-variants as op
 use Rattle.isa.specs.Word as isa
-use Rattle.isa.specs.Laws.{word-below, offset-ahead, offset-back}
+use Rattle.isa.specs.Laws.{word-known, word-below, offset-ahead, offset-back}
 use Rattle.isa.specs.Signed.{offsetOf}
 use Rattle.rules.specs.Bytes.{pick, Name, eqName}
 use Rattle.rules.specs.Tables.{orElse, last, last-index}
@@ -83,24 +83,29 @@ word-cut : (o : Opcode) (d a b i k : ℕ) → i % 2 ^ 32 ≡ k % 2 ^ 32 → word
 unfolding wordOf
 word-cut o d a b i k e = rw e refl
 
-zero-below : (n : Encoded) → ((w : ℕ) → n ≡ encoded.Word w → w < 2 ^ 55) → orZero n < 2 ^ 55
+zero-all : (P : ℕ → Type 0) → P 0 → (n : Encoded) → ((w : ℕ) → n ≡ encoded.Word w → P w) → P (orZero n)
 unfolding orZero
-zero-below (encoded.Word w) h = h w refl
-zero-below encoded.NoWord h = omega arith
+zero-all P z (encoded.Word w) h = h w refl
+zero-all P z encoded.NoWord h = z
 
--- No word has the top bit.
-pub below : (o : Opcode) (d a b i : ℕ) → wordOf o d a b i < 2 ^ 63
-unfolding wordOf
-below o d a b i =
-    let n : Instruction = record { opcode = o; rd = d % 256; rs1 = a % 256; rs2 = b % 256; imm = i % 2 ^ 32 } in
-    let h = zero-below (isa.encodeOf n) (λ w e. word-below n w (omega arith) e) in
-    omega (arith, h)
+-- No word has top bits, and each has an opcode.
+module _ (o : Opcode) (d a b i : ℕ) where
+  fields : Instruction
+  fields = record { opcode = o; rd = d % 256; rs1 = a % 256; rs2 = b % 256; imm = i % 2 ^ 32 }
+
+  pub below : wordOf o d a b i < 2 ^ 55
+  unfolding wordOf fields
+  below = zero-all (λ (w : ℕ). w < 2 ^ 55) (omega arith) (isa.encodeOf fields 0) (λ w e. word-below fields w (omega arith) e)
+
+  known : wordOf o d a b i % 256 < 31
+  unfolding wordOf fields
+  known = zero-all (λ (w : ℕ). w % 256 < 31) (omega arith) (isa.encodeOf fields 0) (λ w e. omega (arith, word-known fields 0 w e))
 
 linked-call : (F : List ℕ) (i k : ℕ) → k ≤ 256 → linked F i (callOf k) ≡ wordOf op.Call 0 0 0 (distanceTo F i k)
 unfolding linked callOf pick
 linked-call F i k h =
-    let e : 2 ^ 63 ≤ 2 ^ 63 + k % 2 ^ 63 = omega arith in
-    let g : 2 ^ 63 + k % 2 ^ 63 - 2 ^ 63 ≡ k = omega arith in
+    let e : 31 ≤ (255 + 256 * (k % 2 ^ 56)) % 256 = omega arith in
+    let g : (255 + 256 * (k % 2 ^ 56)) / 256 ≡ k = omega arith in
     rw (le-leb _ _ e, g) refl
 
 linked-open : (F : List ℕ) (i : ℕ) (a : Option ℕ) (x : Option Entry) → Agree F a x → length F ≤ 256 → i < 2 ^ 32
@@ -116,7 +121,7 @@ module _ (C : Contract) (F : List ℕ) (T : List Entry) (few : length F ≤ 256)
   one i (word p b w) h = kept
     where
       kept : linked F i (wordOf (w .op) (w .rd) (w .rs1) (w .rs2) (bitsOf (w .imm))) ≡ cut w
-      kept = kept-word F i _ (below (w .op) (w .rd) (w .rs1) (w .rs2) (bitsOf (w .imm)))
+      kept = kept-word F i _ (known (w .op) (w .rd) (w .rs1) (w .rs2) (bitsOf (w .imm)))
   one i (calls p x) h = linked-open F i _ _ (agrees F 0 (C .functions) T x placed) few h
 
   pub same : (ws : List Open) (i : ℕ) → i + length ws ≤ 2 ^ 32 → linkedFrom F i (map (raw C) ws) ≡ map cut (link T i ws)

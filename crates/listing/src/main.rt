@@ -22,7 +22,7 @@ fn refused(a: Answer) {
     write(b"\n");
 }
 
-// A line for each word: its index, and the word in 16 hex digits.
+// A line for each word.
 fn words(code: &[u64]) {
     write(b"words ");
     number(code.len() as u64);
@@ -35,10 +35,9 @@ fn words(code: &[u64]) {
 }
 
 fn line(i: usize, w: u64) {
-    number(i as u64);
-    write(b" ");
-    io::print_hex(STDOUT_FILENO, w, 16);
-    write(b"\n");
+    let mut text = [0u8; lines::LINE];
+    let n = lines::line(&mut text, i as u64, w);
+    write(&text[..n]);
 }
 
 // An accepted program fits the room.

@@ -33,7 +33,7 @@ fn word_in(img: &[u8], i: usize) -> u64
 }
 
 // Eight.
-fn eight_in(img: &[u8], i: usize) -> u64
+pub fn eight_in(img: &[u8], i: usize) -> u64
     requires { ⌜ i + 8 ≤ length (now img) ⌝ }
     ensures { λ r. ⌜ r ≡ le64 (now (img .entry)) i ⌝ }
 {

@@ -32,7 +32,7 @@ use Rattle.sema.specs.Entry.{Passed}
 use Rattle.sema.specs.Front.{judgedOf}
 use Rattle.lookup.specs.Answers.{faultOf}
 use Rattle.lookup.specs.declared.Fault as code
-use Rattle.wording.specs.Lays.{Lays}
+use Rattle.pieces.specs.Lays.{Lays}
 use Rattle.texts.specs.Tells.{Room, Tells}
 
 pub tells-bad : {A : Type 0} (r : Refusal) {a b : Answer} {s t : List ℕ} {k : ℕ} → b ≡ refused r → a ≡ answer (b .refusal) (b .place) k → Lays 0 (textOf r) s t k → Tells {A = A} (bad r) s t a

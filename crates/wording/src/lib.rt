@@ -1,37 +1,17 @@
 // The texts of the Rust (02: P1), written piece by piece into a lent slice. Nothing is asked of the image; the slice has room for the text.
 ghost use mathlib.Core.Path.{_≡_};
-ghost use mathlib.Core.List.{[], _∷_, _++_};
+ghost use mathlib.Core.List.{_++_};
 ghost use Prim.Native.Nat.{_+_, _≤_};
 ghost use lib.ListN.{length};
 ghost use Rattle.rules.specs.Bytes.{nameAt};
-ghost use Rattle.rules.specs.Texts.{bytes, digits, decimal, typeText, textOf};
+ghost use Rattle.rules.specs.Texts.{bytes, decimal, typeText, textOf};
 ghost use Rattle.lookup.specs.Answers.{tyOf, faultOf};
 ghost use Rattle.bounds.specs.Texts.{generatedAs};
-ghost use Rattle.wording.specs.Lays.{Lays};
+ghost use Rattle.pieces.specs.Lays.{Lays};
 use lookup::Fault;
 use lookup::Ty;
-
-// One byte.
-fn put_byte(out: &mut [u8], n: usize, b: u8) -> usize
-    requires { ⌜ n + 1 ≤ length (now out) ⌝ }
-    ensures { λ r. ⌜ Lays n (b ∷ []) (now (out .entry)) (now (out .exit)) r ⌝ }
-{
-    out[n] = b;
-    n + 1
-}
-
-// A piece.
-fn put(out: &mut [u8], n: usize, s: &[u8]) -> usize
-    requires { ⌜ n + length (now s) ≤ length (now out) ⌝ }
-    ensures { λ r. ⌜ Lays n (now (s .entry)) (now (out .entry)) (now (out .exit)) r ⌝ }
-{
-    let mut i = 0;
-    while i < s.len() {
-        out[n + i] = s[i];
-        i += 1;
-    }
-    n + s.len()
-}
+use pieces::put;
+use pieces::put_number;
 
 // The name at x.
 fn put_name(out: &mut [u8], n: usize, img: &[u8], x: usize) -> usize
@@ -39,30 +19,6 @@ fn put_name(out: &mut [u8], n: usize, img: &[u8], x: usize) -> usize
     ensures { λ r. ⌜ Lays n (nameAt (now (img .entry)) x) (now (out .entry)) (now (out .exit)) r ⌝ }
 {
     put(out, n, records::name(img, x))
-}
-
-// A number in decimal, so many digits at most.
-fn put_digits(out: &mut [u8], n: usize, v: usize, left: usize) -> usize
-    requires { ⌜ n + length (digits left v) ≤ length (now out) ⌝ }
-    ensures { λ r. ⌜ Lays n (digits left v) (now (out .entry)) (now (out .exit)) r ⌝ }
-{
-    if left == 0 {
-        return n;
-    }
-    let last = (48 + v % 10) as u8;
-    if v < 10 {
-        return put_byte(out, n, last);
-    }
-    let m = put_digits(out, n, v / 10, left - 1);
-    put_byte(out, m, last)
-}
-
-// {} of a usize.
-fn put_number(out: &mut [u8], n: usize, v: usize) -> usize
-    requires { ⌜ n + length (decimal v) ≤ length (now out) ⌝ }
-    ensures { λ r. ⌜ Lays n (decimal v) (now (out .entry)) (now (out .exit)) r ⌝ }
-{
-    put_digits(out, n, v, 20)
 }
 
 // {:?} of a struct's type.

@@ -1,88 +1,60 @@
-// The word through its public functions: every low byte from 0 to 32, the edge registers, patches and offsets, a line each.
-use isa::Decoded;
-use isa::Encoded;
-use isa::Instruction;
-use isa::Op;
-use isa::Opcode;
+// The lines of the words on standard input (02: P3), 8 little-endian bytes each, a block at a time: any number of them, in constant memory.
+ghost use Prim.Native.Nat.{_≤_};
+ghost use lib.ListN.{length};
+use libc::STDERR_FILENO;
+use libc::STDIN_FILENO;
 use libc::STDOUT_FILENO;
 
-fn space() {
-    io::write_all(STDOUT_FILENO, b" ");
+// The words of a block.
+const BLOCK: u64 = 1024;
+
+// The last block's first index: all indices fit 64 bits.
+const LAST: u64 = 18446744073709550592;
+
+// One line on standard error.
+fn tell(what: &[u8]) {
+    io::write_all(STDERR_FILENO, b"words: ");
+    io::write_all(STDERR_FILENO, what);
+    io::write_all(STDERR_FILENO, b"\n");
 }
 
-fn show(answer: Encoded) {
-    match answer {
-        Encoded::Word(w) => {
-            io::print_hex(STDOUT_FILENO, w, 16);
-        }
-        Encoded::NoWord => {
-            io::write_all(STDOUT_FILENO, b"no word");
-        }
-    }
-    io::write_all(STDOUT_FILENO, b"\n");
+// The bytes behind the last whole word.
+fn left_over(n: usize) {
+    io::write_all(STDERR_FILENO, b"words: bytes behind the last whole word: ");
+    io::print_decimal(STDERR_FILENO, n as u64);
+    io::write_all(STDERR_FILENO, b"\n");
 }
 
-// A word read, and the fields written again.
-fn again(w: u64) {
-    io::print_hex(STDOUT_FILENO, w, 16);
-    space();
-    match Instruction::decode(w) {
-        Decoded::Read(i) => {
-            let o = i.opcode;
-            io::print_decimal(STDOUT_FILENO, o.number() as u64);
-            space();
-            io::print_decimal(STDOUT_FILENO, i.rd as u64);
-            space();
-            io::print_decimal(STDOUT_FILENO, i.rs1 as u64);
-            space();
-            io::print_decimal(STDOUT_FILENO, i.rs2 as u64);
-            space();
-            io::print_decimal(STDOUT_FILENO, i.imm as u64);
-            space();
-            show(i.encode());
-        }
-        Decoded::Refused => {
-            io::write_all(STDOUT_FILENO, b"refused\n");
-        }
+// What ends the input: a read that fails, bytes left over, or nothing more.
+fn ended(n: usize) {
+    let mut rest = [0u8; 1];
+    if libc::read(STDIN_FILENO, &mut rest) != 0 {
+        tell(b"standard input cannot be read");
+    } else if n != 0 {
+        left_over(n);
     }
 }
 
-// The word of an opcode's number with three registers.
-fn with(n: u8, rd: u8, rs1: u8, rs2: u8) -> Encoded {
-    match Opcode::of(n) {
-        Op::Known(o) => {
-            let i = Instruction {
-                opcode: o,
-                rd,
-                rs1,
-                rs2,
-                imm: 7,
-            };
-            i.encode()
-        }
-        Op::Unknown => Encoded::NoWord,
+// The next block, its first word with that index: whether another may follow.
+fn block(words: &mut [u8], out: &mut [u8], first: u64) -> bool {
+    let n = io::read_full(STDIN_FILENO, words);
+    let k = lines::lines(out, first, &words[..n]);
+    if !io::write_all(STDOUT_FILENO, &out[..k]) {
+        tell(b"standard output cannot be written");
+        return false;
     }
-}
-
-// Each low byte with bits 55 to 63 set, imm -1 and the registers 31, 0 and 30.
-fn low_bytes() {
-    for n in 0..33 {
-        again(0xffff_ffff_fff8_1f00 + n);
+    if n == words.len() {
+        return true;
     }
+    ended(n % 8);
+    false
 }
 
 fn main() {
-    low_bytes();
-    show(with(Instruction::PUSH, 31, 31, 31));
-    show(with(Instruction::PUSH, 32, 0, 0));
-    show(with(Instruction::PUSH, 0, 32, 0));
-    show(with(Instruction::PUSH, 0, 0, 32));
-    show(with(
-        Instruction::VERIFY_MERKLE,
-        Instruction::HEAP,
-        Instruction::LAST_FREE,
-        Instruction::ZERO,
-    ));
-    show(Instruction::patched(0xff80_0000_0000_4011, Instruction::offset(3, 9)));
-    show(Instruction::patched(0x1f, 1));
+    let mut words = [0u8; 8192];
+    let mut out = [0u8; 40960];
+    let mut first = 0;
+    while first < LAST && block(&mut words, &mut out, first) {
+        first += BLOCK;
+    }
 }

@@ -18,16 +18,21 @@ pub enum Asked {
         image: OsString,
         index: Option<u64>,
     },
+    Words {
+        file: OsString,
+    },
 }
 
-// A command's form, and what its help says of it.
+// A command's form, what its help says of it, and what its first argument is called.
 struct Command {
     usage: &'static str,
     about: &'static str,
+    ends: &'static str,
+    of: &'static str,
     takes: Takes,
 }
 
-// What a command takes besides IMAGE: nothing; -o FILE, if it is given; INDEX or --all.
+// What a command takes besides its first argument: nothing; -o FILE, if it is given; INDEX or --all.
 #[derive(PartialEq)]
 enum Takes {
     Nothing,
@@ -42,6 +47,8 @@ const BUILD: Command = Command {
   -o FILE  write the words into FILE instead, 8 little-endian bytes each; - is standard output.
            A file that is there stays as it is if the image is refused or the write fails.
 ",
+    ends: ENDS,
+    of: "IMAGE",
     takes: Takes::File,
 };
 
@@ -50,6 +57,8 @@ const TEXT: Command = Command {
     about: "Prints the old compiler's own text of why an image is refused. Refusals 10 to 22 and 40 to 47 have one;
 of the others, and of an image that is accepted, nothing is printed.
 ",
+    ends: ENDS,
+    of: "IMAGE",
     takes: Takes::Nothing,
 };
 
@@ -62,7 +71,23 @@ leads to: `6 If at 72 in main, patched, leads to 8`. The first three words are t
   INDEX  the word's index, from 0, as `haspnettle build` prints it
   --all  a line for each word
 ",
+    ends: ENDS,
+    of: "IMAGE",
     takes: Takes::Index,
+};
+
+const WORDS: Command = Command {
+    usage: "haspnettle words FILE",
+    about: "Prints a line for each word in a file, 8 little-endian bytes each: its index, the word in 16 hex digits, and a space and
+`+` where bits 55 to 63 are not zero. A word whose low byte is no opcode has its line like any other.
+",
+    ends: "FILE - is standard input. The exit status is
+  0  every byte is in a word that is listed
+  1  one to seven bytes are left behind the last whole word, told in one line on standard error behind the lines
+  2  wrong arguments, or a file that cannot be read or written, in one line on standard error
+",
+    of: "FILE",
+    takes: Takes::Nothing,
 };
 
 const ALL: &str = "Contracts to words of a proving register machine.
@@ -70,6 +95,7 @@ const ALL: &str = "Contracts to words of a proving register machine.
   build  prints the words of an image, or writes them into FILE
   text   prints the old compiler's own text of why an image is refused
   why    prints which record asked for a word
+  words  lists the words in a file, and marks those with bits above the instruction; status 1: bytes are left over
 
 `haspnettle COMMAND --help` says more of each; `haspnettle --version` says which this is.
 ";
@@ -82,12 +108,13 @@ const ENDS: &str = "IMAGE - is standard input. The exit status is
 
 /// Reads the arguments behind the program's name.
 pub fn asked(mut args: impl Iterator<Item = OsString>) -> Result<Asked, Stop> {
-    let usages = |between| [BUILD, TEXT, WHY].map(|command| command.usage).join(between);
+    let usages = |between| [BUILD, TEXT, WHY, WORDS].map(|command| command.usage).join(between);
     let Some(first) = args.next() else { return wrong("no command", &usages(", or ")) };
     match first.to_str() {
         Some("build") => BUILD.asked(args, |image, file| Ok(Asked::Build { image, file })),
         Some("text") => TEXT.asked(args, |image, _| Ok(Asked::Text { image })),
         Some("why") => WHY.asked(args, why),
+        Some("words") => WORDS.asked(args, |file, _| Ok(Asked::Words { file })),
         Some("-h" | "--help") => Ok(Asked::Said(format!("usage: {}\n\n{ALL}\n{ENDS}", usages("\n       ")))),
         Some("--version") => Ok(Asked::Said(format!("haspnettle {}\n", env!("CARGO_PKG_VERSION")))),
         _ => wrong(&format!("no command {first:?}"), &usages(", or ")),
@@ -103,17 +130,17 @@ fn why(image: OsString, index: Option<OsString>) -> Result<Asked, Stop> {
     Ok(Asked::Why { image, index })
 }
 
-// What is asked for with IMAGE and what else was given.
-type Of = fn(OsString, Option<OsString>) -> Result<Asked, Stop>;
+// What is asked for with the first argument and what else was given.
+type Asks = fn(OsString, Option<OsString>) -> Result<Asked, Stop>;
 
 impl Command {
     // IMAGE before INDEX, and options anywhere.
-    fn asked(&self, mut args: impl Iterator<Item = OsString>, of: Of) -> Result<Asked, Stop> {
-        let (mut image, mut other) = (None, None);
+    fn asked(&self, mut args: impl Iterator<Item = OsString>, asks: Asks) -> Result<Asked, Stop> {
+        let (mut first, mut other) = (None, None);
         while let Some(arg) = args.next() {
             let all = self.takes == Takes::Index && arg == "--all";
             match arg.to_str() {
-                Some("-h" | "--help") => return Ok(Asked::Said(format!("usage: {}\n\n{}\n{ENDS}", self.usage, self.about))),
+                Some("-h" | "--help") => return Ok(Asked::Said(format!("usage: {}\n\n{}\n{}", self.usage, self.about, self.ends))),
                 Some("-o") if self.takes == Takes::File => match args.next() {
                     None => return wrong("-o without FILE", self.usage),
                     _ if other.is_some() => return wrong("a second -o", self.usage),
@@ -122,15 +149,15 @@ impl Command {
                 _ if !all && arg != "-" && arg.as_encoded_bytes().starts_with(b"-") => {
                     return wrong(&format!("unknown option {arg:?}"), self.usage)
                 }
-                _ if !all && image.is_none() => image = Some(arg),
-                _ if self.takes != Takes::Index => return wrong(&format!("a second IMAGE, {arg:?}"), self.usage),
+                _ if !all && first.is_none() => first = Some(arg),
+                _ if self.takes != Takes::Index => return wrong(&format!("a second {}, {arg:?}", self.of), self.usage),
                 _ if other.is_some() => return wrong(&format!("a second INDEX, {arg:?}"), self.usage),
                 _ => other = Some(arg),
             }
         }
-        match image {
-            None => wrong("no IMAGE", self.usage),
-            Some(image) => of(image, other),
+        match first {
+            None => wrong(&format!("no {}", self.of), self.usage),
+            Some(first) => asks(first, other),
         }
     }
 }

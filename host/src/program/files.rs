@@ -1,4 +1,4 @@
-//! An image in, words or a text out. `-` is standard input, or standard output.
+//! Bytes of a file in, and out. `-` is standard input, or standard output.
 
 use crate::Stop;
 use std::ffi::OsStr;
@@ -12,27 +12,58 @@ const MOST: u64 = 65_537;
 
 /// The first 65,537 bytes of a file.
 pub fn read(name: &OsStr) -> Result<Vec<u8>, Stop> {
-    let mut bytes = vec![];
-    let done = match name == "-" {
-        true => io::stdin().take(MOST).read_to_end(&mut bytes),
-        false => File::open(name).and_then(|file| file.take(MOST).read_to_end(&mut bytes)),
-    };
-    match done {
-        Ok(_) => Ok(bytes),
-        Err(e) => Err(Stop::failed(format!("cannot read {}: {e}", shown(name, "standard input")))),
+    Input::open(name)?.next(MOST)
+}
+
+/// A file that is read from its start on.
+pub struct Input<'a> {
+    name: &'a OsStr,
+    from: Box<dyn Read>,
+}
+
+impl<'a> Input<'a> {
+    pub fn open(name: &'a OsStr) -> Result<Self, Stop> {
+        let from: Box<dyn Read> = match name == "-" {
+            true => Box::new(io::stdin()),
+            false => Box::new(File::open(name).map_err(|e| unreadable(name, e))?),
+        };
+        Ok(Input { name, from })
+    }
+
+    /// So many bytes more; fewer only where the file ends.
+    pub fn next(&mut self, most: u64) -> Result<Vec<u8>, Stop> {
+        let mut bytes = vec![];
+        self.from.by_ref().take(most).read_to_end(&mut bytes).map_err(|e| unreadable(self.name, e))?;
+        Ok(bytes)
     }
 }
 
-/// Writes all of a file. A pipe whose reader has gone is no failure: it wanted no more.
+fn unreadable(name: &OsStr, e: io::Error) -> Stop {
+    Stop::failed(format!("cannot read {}: {e}", shown(name, "standard input")))
+}
+
+/// Writes all of a file.
 pub fn write(name: impl AsRef<OsStr>, bytes: &[u8]) -> Result<(), Stop> {
     let name = name.as_ref();
-    let done = match name == "-" {
+    match name == "-" {
         true => print(bytes),
-        false => put(name.as_ref(), bytes),
-    };
+        false => heard(name, put(name.as_ref(), bytes)),
+    }
+    .map(|_| ())
+}
+
+/// Writes to standard output, and tells whether it is still read.
+pub fn print(bytes: &[u8]) -> Result<bool, Stop> {
+    let mut out = io::stdout().lock();
+    heard("-".as_ref(), out.write_all(bytes).and_then(|_| out.flush()))
+}
+
+// A pipe whose reader has gone is no failure: it wanted no more.
+fn heard(name: &OsStr, done: io::Result<()>) -> Result<bool, Stop> {
     match done {
-        Err(e) if e.kind() != ErrorKind::BrokenPipe => Err(Stop::failed(format!("cannot write {}: {e}", shown(name, "standard output")))),
-        _ => Ok(()),
+        Ok(()) => Ok(true),
+        Err(e) if e.kind() == ErrorKind::BrokenPipe => Ok(false),
+        Err(e) => Err(Stop::failed(format!("cannot write {}: {e}", shown(name, "standard output")))),
     }
 }
 
@@ -42,12 +73,6 @@ fn shown(name: &OsStr, standard: &str) -> String {
         true => standard.into(),
         false => format!("{name:?}"),
     }
-}
-
-fn print(bytes: &[u8]) -> io::Result<()> {
-    let mut out = io::stdout().lock();
-    out.write_all(bytes)?;
-    out.flush()
 }
 
 // A file that is there must be one that may be written; a device or a pipe is written as it stands, since nothing can take its place.

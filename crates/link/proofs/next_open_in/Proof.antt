@@ -44,9 +44,6 @@ loop2-holds c = c .before .loop .inv
 mul-if2 : tie.Need-mul-if2 Inv-loop μ-loop Inv-loop2 μ-loop2
 mul-if2 c = search needs
 
-add-if2 : tie.Need-add-if2 Inv-loop μ-loop Inv-loop2 μ-loop2
-add-if2 c = search needs
-
 shared-slice-read-if2 : tie.Need-shared-slice-read-if2 Inv-loop μ-loop Inv-loop2 μ-loop2
 shared-slice-read-if2 c = search needs
 
@@ -81,7 +78,6 @@ next-open-in-spec =
     loop-again
     loop2-holds
     mul-if2
-    add-if2
     shared-slice-read-if2
     add-i-2
     loop2-less

@@ -26,9 +26,6 @@ add-if1 c = search needs
 mul-if1 : tie.Need-mul-if1 Inv-loop μ-loop
 mul-if1 c = search needs
 
-add-if1-2 : tie.Need-add-if1-2 Inv-loop μ-loop
-add-if1-2 c = search needs
-
 shared-slice-read-if1 : tie.Need-shared-slice-read-if1 Inv-loop μ-loop
 shared-slice-read-if1 c = search needs
 
@@ -59,7 +56,6 @@ some-open-in-spec =
     loop-holds
     add-if1
     mul-if1
-    add-if1-2
     shared-slice-read-if1
     add-j
     loop-less

@@ -5,7 +5,7 @@ use native.Mathlib.Omega.{arith}
 use lib.ListN.{length-append}
 use Rattle.rules.specs.Texts.{bytes, typeText}
 use Rattle.lookup.specs.Answers.{tyOf}
-use Rattle.wording.specs.Lays.{lays-then}
+use Rattle.pieces.specs.Lays.{lays-then}
 use borrow.Author.Needs.{needs}
 use Rattle.wording.proofs.types.Statement.{statement}
 use Rattle.wording.proofs.types.Tie as tie

@@ -1,10 +1,10 @@
--- `wording::put_byte` meets its contract.
+-- `pieces::put_byte` meets its contract.
 -- Assumes nothing.
 use mathlib.Core.Path.{refl, sym}
 use Rattle.lent.specs.Over.{overAt-one}
 use borrow.Author.Needs.{needs}
-use Rattle.wording.proofs.put_byte.Statement.{statement}
-use Rattle.wording.proofs.put_byte.Tie as tie
+use Rattle.pieces.proofs.put_byte.Statement.{statement}
+use Rattle.pieces.proofs.put_byte.Tie as tie
 
 slice-write-out : tie.Need-slice-write-out
 slice-write-out c = search needs

@@ -1,4 +1,4 @@
--- `wording::put` meets its contract. The invariant: the first i bytes lie from n on.
+-- `pieces::put` meets its contract. The invariant: the first i bytes lie from n on.
 -- Assumes nothing.
 use mathlib.Core.Path.{_≡_, refl, sym, ap, _∙_}
 use Prim.Native.Nat.{_+_, _-_, _≤_}
@@ -7,10 +7,10 @@ use native.Mathlib.Omega.{arith}
 use lib.ListN.{length, take, getD, set}
 use lib.Seq.{take-length}
 use Rattle.lent.specs.Over.{overAt, overAt-nil, length-overAt}
-use Rattle.wording.specs.Lays.{lay-more}
+use Rattle.pieces.specs.Lays.{lay-more}
 use borrow.Author.Needs.{needs}
-use Rattle.wording.proofs.put.Statement.{statement}
-use Rattle.wording.proofs.put.Tie as tie
+use Rattle.pieces.proofs.put.Statement.{statement}
+use Rattle.pieces.proofs.put.Tie as tie
 
 abbrev Inv-loop : tie.InvT-loop
 Inv-loop out₀ n s i₀ out i = (i ≤ length s) × (out ≡ overAt n (take i s) out₀)

@@ -1,9 +1,9 @@
--- `wording::put_number` meets its contract.
+-- `pieces::put_number` meets its contract.
 -- Assumes nothing.
 use Rattle.rules.specs.Texts.{decimal}
 use borrow.Author.Needs.{needs}
-use Rattle.wording.proofs.put_number.Statement.{statement}
-use Rattle.wording.proofs.put_number.Tie as tie
+use Rattle.pieces.proofs.put_number.Statement.{statement}
+use Rattle.pieces.proofs.put_number.Tie as tie
 
 put-digits-requires : tie.Need-put-digits-requires
 unfolding decimal

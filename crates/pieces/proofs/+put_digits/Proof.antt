@@ -1,17 +1,17 @@
--- `wording::put_digits` meets its contract: the last digit behind those before it.
+-- `pieces::put_digits` meets its contract: the last digit behind those before it.
 -- Assumes nothing.
 use native.Mathlib.Omega.{arith}
-use Rattle.wording.specs.Lays.{lays-none, lays-one, lays-more, length-one, length-more}
+use Rattle.pieces.specs.Lays.{lays-none, lays-one, lays-more, length-one, length-more}
 use borrow.Author.Needs.{needs}
 use Prim.Native.Nat.{ℕ, _<_}
 use borrow.Fn.Kinds.{In}
 use borrow.Fn.PlainCycle.{Measures, is, falls, and}
-use Rattle.wording.proofs.put_digits.Reads as put-digits
-use Rattle.wording.proofs.put_digits.Kinds as put-digits-kinds
-use Rattle.wording.proofs.+put_digits.Lts-put_digits as put-digits-lts
-use Rattle.wording.proofs.put_byte.Reads as put-byte-reads
-use Rattle.wording.proofs.+put_digits.{statement}
-use Rattle.wording.proofs.+put_digits.Tie.{close}
+use Rattle.pieces.proofs.put_digits.Reads as put-digits
+use Rattle.pieces.proofs.put_digits.Kinds as put-digits-kinds
+use Rattle.pieces.proofs.+put_digits.Lts-put_digits as put-digits-lts
+use Rattle.pieces.proofs.put_byte.Reads as put-byte-reads
+use Rattle.pieces.proofs.+put_digits.{statement}
+use Rattle.pieces.proofs.+put_digits.Tie.{close}
 
 abbrev μ-put-digits : Measures 1 put-digits-kinds.ps ℕ
 μ-put-digits κs a = a .1 .1 .1 .0

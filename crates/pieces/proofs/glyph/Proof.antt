@@ -1,0 +1,29 @@
+-- `pieces::glyph` meets its contract.
+-- Assumes nothing.
+use mathlib.Core.Path.{sym}
+use Rattle.pieces.specs.Hex.{glyph-low, glyph-high}
+use borrow.Author.Needs.{needs}
+use Rattle.pieces.proofs.glyph.Statement.{statement}
+use Rattle.pieces.proofs.glyph.Tie as tie
+
+add-result : tie.Need-add-result
+add-result c = search needs
+
+cast-result : tie.Need-cast-result
+cast-result c = search needs
+
+returns : tie.Need-returns
+returns c = sym (glyph-low _ (c .if1 .taken))
+
+add-result-2 : tie.Need-add-result-2
+add-result-2 c = search needs
+
+cast-result-2 : tie.Need-cast-result-2
+cast-result-2 c = search needs
+
+returns-2 : tie.Need-returns-2
+returns-2 c = sym (glyph-high _ (c .if1 .left))
+
+pub glyph-spec : {M : Type 1} → statement M
+glyph-spec =
+    tie.close (tie.spec add-result cast-result returns add-result-2 cast-result-2 returns-2)
