@@ -93,16 +93,17 @@ fn line(image: &[u8], index: u64) -> Result<String, Stop> {
 
 // A block at a time, so that any number of words takes the same memory.
 fn words(input: &mut Input) -> Result<(), Stop> {
-    const BLOCK: u64 = 1 << 16;
-    for block in 0.. {
-        let bytes = input.next(BLOCK)?;
-        let heard = print(lines(BLOCK / 8 * block, &bytes).as_bytes())?;
-        match (bytes.len() as u64 == BLOCK, bytes.len() % 8) {
-            _ if !heard => break,
-            (true, _) => continue,
-            (_, 0) => break,
-            (_, left) => return Err(Stop { status: 1, line: format!("haspnettle: bytes behind the last whole word: {left}\n") }),
+    const BLOCK: u64 = 8192;
+    let mut first = 0;
+    loop {
+        let bytes = input.next(8 * BLOCK)?;
+        if !print(lines(first, &bytes).as_bytes())? {
+            return Ok(());
+        }
+        match bytes.len() % 8 {
+            0 if bytes.len() as u64 == 8 * BLOCK => first += BLOCK,
+            0 => return Ok(()),
+            left => return Err(Stop { status: 1, line: format!("haspnettle: bytes behind the last whole word: {left}\n") }),
         }
     }
-    Ok(())
 }
