@@ -1,4 +1,5 @@
--- How long lines are.
+-- How long lines are, and what the loop over words has listed.
+--     no-flag, some-flag, length-flag      nothing or ` +` behind a word
 --     length-line      at most 40 bytes; length-lines: of n words at most 40 n
 --     counted          how many bytes a text took
 --     none-yet, more, whole      what the loop over the words has listed: nothing yet, one line more, all

@@ -1,8 +1,9 @@
 -- Hex digits written from the last to the first.
 --     Hexing           the last of the digits lie behind n + i, and those before them are the i digits of what is left
---     hexing-start, hexing-more, hexing-end      before the loop, one digit more, all of them
+--     hexing-start, hexing-more, hexing-end      before the loop, one digit more, all of them (hexing-length: the slice is as long)
+--     glyph-low, glyph-high, length-hex          a digit by cases; how many there are
 -- Assumes nothing.
-use mathlib.Core.Path.{_≡_, refl, sym, ap, subst, _∙_}
+use mathlib.Core.Path.{_≡_, refl, sym, ap, _∙_}
 use mathlib.Core.List.{List, [], _∷_, _++_, append-assoc, append-nil}
 use Prim.Native.Nat.{ℕ, zero, suc, _+_, _/_, _%_, _≤_, _<_}
 use native.Mathlib.Numerals.{add-one}
@@ -40,20 +41,16 @@ hexing-start left v n s = record { tail = []; within = omega arith; whole = sym 
 front : (k g : ℕ) (l s : List ℕ) → set (overAt (k + 1) l s) k g ≡ overAt k (g ∷ l) s
 front k g l s = sym (overAt-one k g (overAt (k + 1) l s)) ∙ overAt-swap k (k + 1) (g ∷ []) l s (omega arith) ∙ ap (overAt (k + 1) l) (overAt-one k g s) ∙ sym (overAt-first k g l s)
 
-pub hexing-more : {left v n : ℕ} {s t : List ℕ} {i rest : ℕ} (g : ℕ) → Hexing left v n s t (suc i) rest → g ≡ glyph (rest % 16) → Hexing left v n s (set t (n + i) g) i (rest / 16)
+pub hexing-more : {left v n : ℕ} {s t : List ℕ} {j i rest : ℕ} (g : ℕ) → Hexing left v n s t j rest → j ≡ suc i → g ≡ glyph (rest % 16) → Hexing left v n s (set t (n + i) g) i (rest / 16)
 unfolding hexDigits
-hexing-more {left} {v} {n} {s} {t} {i} {rest} g h e =
-    let k : n + suc i ≡ n + i + 1 = omega arith in
+hexing-more {left} {v} {n} {s} {t} {j} {i} {rest} g h p e =
+    let k : n + j ≡ n + i + 1 = omega (arith, p) in
     record {
       tail = g ∷ h .tail;
-      within = omega (arith, h .within);
-      whole = h .whole ∙ ap (λ x. (hexDigits i (rest / 16) ++ (x ∷ [])) ++ h .tail) (sym e) ∙ append-assoc (hexDigits i (rest / 16)) (g ∷ []) (h .tail);
-      laid = ap (λ r. set r (n + i) g) (h .laid ∙ ap (λ j. overAt j (h .tail) s) k) ∙ front (n + i) g (h .tail) s;
+      within = omega (arith, p, h .within);
+      whole = h .whole ∙ ap (λ m. hexDigits m rest ++ h .tail) p ∙ ap (λ x. (hexDigits i (rest / 16) ++ (x ∷ [])) ++ h .tail) (sym e) ∙ append-assoc (hexDigits i (rest / 16)) (g ∷ []) (h .tail);
+      laid = ap (λ r. set r (n + i) g) (h .laid ∙ ap (λ m. overAt m (h .tail) s) k) ∙ front (n + i) g (h .tail) s;
     }
-
--- The same before the index is lowered.
-pub hexing-next : {left v n : ℕ} {s t : List ℕ} {j i rest : ℕ} (g : ℕ) → Hexing left v n s t j rest → j ≡ suc i → g ≡ glyph (rest % 16) → Hexing left v n s (set t (n + i) g) i (rest / 16)
-hexing-next {left} {v} {n} {s} {t} {j} {i} {rest} g h p e = hexing-more g (subst (λ k. Hexing left v n s t k rest) p h) e
 
 pub hexing-length : {left v n : ℕ} {s t : List ℕ} {i rest : ℕ} → Hexing left v n s t i rest → length t ≡ length s
 hexing-length {left} {v} {n} {s} {t} {i} h = ap length (h .laid) ∙ length-overAt (n + i) (h .tail) s

@@ -1,6 +1,4 @@
 // The lines of the words on standard input (02: P3), 8 little-endian bytes each, a block at a time: any number of them, in constant memory.
-ghost use Prim.Native.Nat.{_≤_};
-ghost use lib.ListN.{length};
 use libc::STDERR_FILENO;
 use libc::STDIN_FILENO;
 use libc::STDOUT_FILENO;
@@ -8,7 +6,7 @@ use libc::STDOUT_FILENO;
 // The words of a block.
 const BLOCK: u64 = 1024;
 
-// The last block's first index: all indices fit 64 bits.
+// Every block starts below it, so that its indices have 64 bits.
 const LAST: u64 = 18446744073709550592;
 
 // One line on standard error.

@@ -1,7 +1,7 @@
 -- `pieces::put_hex` meets its contract: from the last digit to the first.
 -- Assumes nothing.
 use native.Mathlib.Omega.{arith}
-use Rattle.pieces.specs.Hex.{Hexing, hexing-start, hexing-next, hexing-length, hexing-end}
+use Rattle.pieces.specs.Hex.{Hexing, hexing-start, hexing-more, hexing-length, hexing-end}
 use borrow.Author.Needs.{needs}
 use Rattle.pieces.proofs.put_hex.Statement.{statement}
 use Rattle.pieces.proofs.put_hex.Tie as tie
@@ -31,7 +31,7 @@ loop-less : tie.Need-loop-less Inv-loop μ-loop
 loop-less c = search needs
 
 loop-again : tie.Need-loop-again Inv-loop μ-loop
-loop-again c = hexing-next _ (c .before .before .loop .inv) (omega (arith, c .before .loop-test .taken)) (c .glyph .ensures)
+loop-again c = hexing-more _ (c .before .before .loop .inv) (omega (arith, c .before .loop-test .taken)) (c .glyph .ensures)
 
 add-result : tie.Need-add-result Inv-loop μ-loop
 add-result c = search needs
