@@ -19,6 +19,7 @@ mod grammar;
 mod groups;
 mod image;
 mod kept;
+mod low;
 mod marks;
 mod meant;
 mod model;
@@ -69,7 +70,7 @@ pub use isa::{Instruction, IsaProfile, Opcode};
 use std::process::exit;
 
 const USE: &str = "use: oracle [selfcheck [accesses] N | gen SEED COUNT DIR | answer FILE [ROOM TABLE] | analyse FILE | text FILE | \
-why FILE [INDEX] | listing PROGRAM N [SEED] | words N SEED PROGRAM.. | staticlib [accesses] N [SEED] | whys FILE | bench [ROUNDS] | store DIR | replay FILE | \
+why FILE [INDEX] | listing PROGRAM N [SEED] | words N SEED PROGRAM.. | low N PROGRAM | staticlib [accesses] N [SEED] | whys FILE | bench [ROUNDS] | store DIR | replay FILE | \
 samples DIR | kept]";
 
 type Said = Result<(), String>;
@@ -98,6 +99,7 @@ fn command(words: &[&str]) -> Said {
         ["listing", program, n] => selfcheck::listing(program, number(n)?, 0),
         ["listing", program, n, seed] => selfcheck::listing(program, number(n)?, number(seed)?),
         ["words", n, seed, program @ ..] => words::compare(number(n)?, number(seed)?, program),
+        ["low", n, program] => low::compare(number(n)?, program),
         ["staticlib", "accesses", n] => foreign::compare(number(n)?, 0, accesses::image),
         ["staticlib", "accesses", n, seed] => foreign::compare(number(n)?, number(seed)?, accesses::image),
         ["staticlib", n] => foreign::compare(number(n)?, 0, cases::image),

@@ -1,11 +1,14 @@
--- What is known of every program that an image comes to: it is short, and each word of it has a number, without top bits.
+-- What is known of every program that an image comes to: it is short, and each word of it has a number, without top bits, and with nothing in
+-- the fields that our generator does not set.
 -- Assumes nothing.
 use mathlib.Core.Path.{_≡_, sym, subst}
+use mathlib.Core.Bool.{false}
 use mathlib.Core.List.{List, map}
-use Prim.Native.Nat.{ℕ, _+_, _≤_, _<_}
+use Prim.Native.Nat.{ℕ, _+_, _%_, _^_, _≤_, _<_}
 use native.Mathlib.Omega.{arith}
-use lib.ListN.{length}
+use lib.ListN.{length, getD}
 use Rattle.isa.specs.Word.{topOf}
+use Rattle.isa.specs.Facts.{factIn, Ruled}
 use Rattle.rules.specs.declared.Seen.the-variants.{Sound}
 use Rattle.rules.specs.Bytes.{Name}
 use Rattle.rules.specs.Tree.{Contract}
@@ -20,6 +23,7 @@ use Rattle.rules.specs.Build.{judged, program, wordsOf}
 use Rattle.bounds.specs.Answers.{All, from-ok, all-bind, all-map}
 use Rattle.bounds.specs.Held.{Each}
 use Rattle.bounds.specs.Numbers.{Encodable, all-no-top, all-read-back}
+use Rattle.bounds.specs.Fields.{Operand, bitsIn, may, Within, all-unset}
 use Rattle.bounds.specs.Ranges.{Ranged, firsts-up, functions-fine, program-fine}
 use Rattle.bounds.specs.Cuts.{cut, offset-small}
 use Rattle.bounds.specs.Contracts.{nodes-few}
@@ -30,6 +34,7 @@ use Rattle.bounds.specs.Refused.{judged-plain}
 pub record Bounded (P : Program) : Type 0 where
   pub short : length (P .words) < 1048576
   pub encodable : (i : ℕ) (w : Word) → At (P .words) i w → Encodable w
+  pub within : (i : ℕ) (w : Word) → At (P .words) i w → Within w
   pub read-back : map read (wordsOf P) ≡ P .words
 
 -- 000: FieldAccess: an offset is small.
@@ -56,7 +61,7 @@ unfolding wordsOf
 generated R h img q m e =
     let z = nodes-few img q m e in
     all-map (program-fine R (contractAt img) h (cut img .storage) (offset-below img) (omega (arith, z)))
-    (λ P g. record { short = omega (arith, z, g .long); encodable = g .encodable; read-back = all-read-back (P .words) (g .encodable) })
+    (λ P g. record { short = omega (arith, z, g .long); encodable = λ i w a. g .emitted i w a .0; within = λ i w a. g .emitted i w a .1; read-back = all-read-back (P .words) (λ i w a. g .emitted i w a .0) })
 
 -- Every program that an image comes to, for a target of 30 free registers at most.
 pub program-bounded : (R : Rules) → R .free ≤ 30 → (img : List ℕ) (P : Program) → program R img ≡ ok P → Bounded P
@@ -69,3 +74,8 @@ program-bounded R h img P e = from-ok (subst (All (λ (P : Program). Bounded P))
 pub program-no-top : (R : Rules) → R .free ≤ 30 → (img : List ℕ) (P : Program) → program R img ≡ ok P → (i n : ℕ) → At (wordsOf P) i n → topOf n ≡ 0
 unfolding wordsOf
 program-no-top R h img P e = all-no-top (P .words) (program-bounded R h img P e .encodable)
+
+-- 02: P7: each word of it has zero in each field that a ruled table says is not set.
+pub program-unset : (R : Rules) → R .free ≤ 30 → (img : List ℕ) (P : Program) → program R img ≡ ok P → (t : List ℕ) → Ruled t → (i n : ℕ) → At (wordsOf P) i n → (k : Operand) → may k (factIn (getD t (n % 2 ^ 8) 0)) ≡ false → bitsIn k n ≡ 0
+unfolding wordsOf
+program-unset R h img P e t ruled = let b = program-bounded R h img P e in all-unset t ruled (P .words) (λ i w a. (b .encodable i w a, b .within i w a))

@@ -16,3 +16,4 @@ pub mod Theorem
 pub mod Accepted
 pub mod Slices
 pub mod Demand3
+pub mod Changes

@@ -57,7 +57,7 @@ first-low (some e) h = omega arith
 
 target-low : (T : List Entry) (i : ℕ) (o : Open) → Firsts T → i < 709933 → Word-of o → Low (targetOf T i o)
 unfolding targetOf
-target-low T i (word p true w) f h g = landing-low i (w .imm) h (g .imm)
+target-low T i (word p true w) f h g = landing-low i (w .imm) h (g .0 .imm)
 target-low T i (word p false w) f h g = tt
 target-low T i (calls p x) f h g = first-low _ (each-last _ _ x T f)
 

@@ -7,41 +7,29 @@ use Rattle.link.specs.Linked.{distanceTo}
 use borrow.Author.Needs.{needs}
 use Rattle.link.proofs.distance.Statement.{statement}
 use Rattle.link.proofs.distance.Tie as tie
-use Rattle.link.proofs.distance.Reads as reads
-use Rattle.link.proofs.distance.Lts as lts
-use Rattle.isa.proofs.Instruction.offset.Reads as offset-reads
-use Rattle.link.proofs.low.Reads as low-reads
 
--- src/lib.rt:25:21
 mul-first : tie.Need-mul-first
 mul-first c = search needs
 
--- src/lib.rt:25:21
 shared-slice-read-first : tie.Need-shared-slice-read-first
 shared-slice-read-first c = search needs
 
--- src/lib.rt:26:29
 low-requires : tie.Need-low-requires
 low-requires c κs = search needs
 
--- src/lib.rt:26:41
 low-requires-2 : tie.Need-low-requires-2
 low-requires-2 c κs = search needs
 
--- src/lib.rt:26:9
 offset-requires : tie.Need-offset-requires
 offset-requires c κs = search needs
 
--- src/lib.rt:26:9
 cast-result : tie.Need-cast-result
 cast-result c = search needs
 
--- src/lib.rt:21:1
 returns : tie.Need-returns
 unfolding distanceTo pick
 returns c = rw (lt-ltb _ _ (c .before .before .before .before .if1 .taken), ← c .before .before .low .ensures, ← c .before .low2 .ensures) (c .offset .ensures)
 
--- src/lib.rt:21:1
 returns-2 : tie.Need-returns-2
 unfolding distanceTo pick
 returns-2 c = rw (le-ltb _ _ (c .if1 .left)) refl

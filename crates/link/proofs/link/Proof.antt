@@ -13,10 +13,10 @@ use Rattle.link.proofs.link.Statement.{statement}
 use Rattle.link.proofs.link.Tie as tie
 
 abbrev Inv-loop : tie.InvT-loop
-Inv-loop code₀ firsts n end i₀ code i = Linking firsts code₀ end code i
+Inv-loop code₀ facts firsts n end i₀ code i = Linking firsts code₀ end code i
 
 abbrev μ-loop : tie.MeasureT-loop
-μ-loop code₀ firsts n end i₀ code i = end - i
+μ-loop code₀ facts firsts n end i₀ code i = end - i
 
 least-requires : tie.Need-least-requires Inv-loop μ-loop
 least-requires c κs = search needs
@@ -47,7 +47,7 @@ add-next-open : tie.Need-add-next-open Inv-loop μ-loop
 add-next-open c = search needs
 
 next-open-requires-2 : tie.Need-next-open-requires-2 Inv-loop μ-loop
-next-open-requires-2 c κs = simp length-set (omega (arith, long (c .before .before .before .before .loop .inv), c .before .before .before .before .loop .inv .room, c .before .before .before .loop-test .taken))
+next-open-requires-2 c κs = (c .before .before .before .before .before .before .before .before .before .before .pre, simp length-set (omega (arith, long (c .before .before .before .before .loop .inv), c .before .before .before .before .loop .inv .room, c .before .before .before .loop-test .taken)))
 
 loop-less : tie.Need-loop-less Inv-loop μ-loop
 loop-less c = search needs

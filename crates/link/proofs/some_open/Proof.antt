@@ -5,29 +5,37 @@ use mathlib.Core.Bool.{false, true≢false}
 use mathlib.Core.Logic.{⊎-elim}
 use Prim.Native.Nat.{_-_, _≤_}
 use native.Mathlib.Omega.{arith}
+use Rattle.isa.specs.Ruled.{is-opcode}
 use Rattle.link.specs.Closed.{Shut, Each}
 use borrow.Author.Count.{below-more}
+use borrow.Author.Tests.{not-false}
 use borrow.Author.Needs.{needs}
 use Rattle.link.proofs.some_open.Statement.{statement}
 use Rattle.link.proofs.some_open.Tie as tie
 
 abbrev Inv-loop : tie.InvT-loop
-Inv-loop code i any₀ k₀ any k = (k ≤ 16) × (any ≡ false → Each (Shut code) i k)
+Inv-loop facts code i any₀ k₀ any k = (k ≤ 16) × (any ≡ false → Each (Shut code) i k)
 
 abbrev μ-loop : tie.MeasureT-loop
-μ-loop code i any₀ k₀ any k = 16 - k
+μ-loop facts code i any₀ k₀ any k = 16 - k
 
 loop-holds : tie.Need-loop-holds Inv-loop μ-loop
 loop-holds c = search needs
 
-add-if1 : tie.Need-add-if1 Inv-loop μ-loop
-add-if1 c = search needs
+add-fact : tie.Need-add-fact Inv-loop μ-loop
+add-fact c = search needs
 
-mul-if1 : tie.Need-mul-if1 Inv-loop μ-loop
-mul-if1 c = search needs
+mul-fact : tie.Need-mul-fact Inv-loop μ-loop
+mul-fact c = search needs
 
-shared-slice-read-if1 : tie.Need-shared-slice-read-if1 Inv-loop μ-loop
-shared-slice-read-if1 c = search needs
+shared-slice-read-fact : tie.Need-shared-slice-read-fact Inv-loop μ-loop
+shared-slice-read-fact c = search needs
+
+cast-fact : tie.Need-cast-fact Inv-loop μ-loop
+cast-fact c = search needs
+
+fact-requires : tie.Need-fact-requires Inv-loop μ-loop
+fact-requires c κs = search needs
 
 add-k : tie.Need-add-k Inv-loop μ-loop
 add-k c = search needs
@@ -40,7 +48,7 @@ loop-again c = (
   omega arith,
   ⊎-elim
       (λ w e. absurd (true≢false (sym (w .1) ∙ e)))
-      (λ w e. below-more _ _ (c .before .before .before .loop .inv .1 (sym (w .1) ∙ e)) (w .0 .left))
+      (λ w e. below-more _ _ (c .before .before .before .before .before .loop .inv .1 (sym (w .1) ∙ e)) (is-opcode _ (c .before .before .before .before .before .before .before .pre .0) _ (omega arith) (c .before .before .fact .ensures) (not-false _ (w .0 .left))))
       (c .if1 .came),
 )
 
@@ -54,9 +62,11 @@ some-open-spec =
     Inv-loop
     μ-loop
     loop-holds
-    add-if1
-    mul-if1
-    shared-slice-read-if1
+    add-fact
+    mul-fact
+    shared-slice-read-fact
+    cast-fact
+    fact-requires
     add-k
     loop-less
     loop-again

@@ -4,15 +4,12 @@ use Prim.Native.Nat.{_-_, _≤_}
 use borrow.Author.Needs.{needs}
 use Rattle.word_test.proofs.low_bytes.Statement.{statement}
 use Rattle.word_test.proofs.low_bytes.Tie as tie
-use Rattle.word_test.proofs.low_bytes.Reads as reads
-use Rattle.word_test.proofs.low_bytes.Lts as lts
-use Rattle.word_test.proofs.again.Reads as again-reads
 
 abbrev Inv-loop : tie.InvT-loop
-Inv-loop n₀ n = n ≤ 33
+Inv-loop facts n₀ n = n ≤ 33
 
 abbrev μ-loop : tie.MeasureT-loop
-μ-loop n₀ n = 33 - n
+μ-loop facts n₀ n = 33 - n
 
 loop-holds : tie.Need-loop-holds Inv-loop μ-loop
 loop-holds c = search needs
@@ -22,6 +19,12 @@ add-again c = search needs
 
 again-requires : tie.Need-again-requires Inv-loop μ-loop
 again-requires c κs = search needs
+
+cast-known : tie.Need-cast-known Inv-loop μ-loop
+cast-known c = search needs
+
+known-requires : tie.Need-known-requires Inv-loop μ-loop
+known-requires c κs = search needs
 
 add-n : tie.Need-add-n Inv-loop μ-loop
 add-n c = search needs
@@ -44,6 +47,8 @@ low-bytes-spec =
     loop-holds
     add-again
     again-requires
+    cast-known
+    known-requires
     add-n
     loop-less
     loop-again
