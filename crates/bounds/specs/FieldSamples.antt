@@ -42,7 +42,8 @@ u64 = bytes "u64"
 binaries : List (List ℕ)
 binaries = map (λ (k : ℕ). just (rec 70 (ident x ∷ rec 4 ((k ∷ []) ∷ []) ∷ ident x ∷ []))) (count 0 10)
 
--- 01: one function that does everything that sets a field, and one that it calls
+-- 01: one function that does everything that sets a field (36 writes a mapping, 67 reads one, 41 is an Emit, 69 a literal of two Inits), and one
+-- that it calls
 pub sample : List ℕ
 sample =
     contract (field x u64 ∷ []) (struct A (field x u64 ∷ field y u64 ∷ []) ∷ [])

@@ -78,7 +78,7 @@ pub record Ruled (t : List ℕ) : Type 0 where
 
 -- 003: decode_any, the match, where a table tells which bytes are opcodes
 unfoldable pub opcodeBy : List ℕ → ℕ → Op
-opcodeBy t n = cond (factIn (getD t n 0) .known) (Known (getD opcodes n Halt)) Unknown
+opcodeBy t n = cond (factIn (getD t n 0) .known) (Known (getD opcodes n VerifyMerkle)) Unknown
 
 -- 02: P3: a word read by it
 unfoldable pub decodeBy : List ℕ → ℕ → Decoded

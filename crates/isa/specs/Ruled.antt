@@ -3,13 +3,13 @@
 use mathlib.Core.Path.{_≡_, refl, sym, ap, subst, _∙_}
 use mathlib.Core.Bool.{Bool, true, false, cond}
 use mathlib.Core.List.{List, [], _∷_}
-use Prim.Native.Nat.{ℕ, _+_, _*_, _/_, _%_, _^_, _<_, _≤_}
+use Prim.Native.Nat.{ℕ, zero, suc, _+_, _*_, _/_, _%_, _^_, _<_, _≤_}
 use native.Mathlib.Omega.{arith}
 use lib.Dec.{T, ltb, eqb, eqb→eq}
 use lib.ListN.{length, getD, List·getD-eq-default}
-use borrow.Author.Tests.{ltb-true, ltb-false}
+use borrow.Author.Tests.{ltb-true, ltb-false, eqb-true, eqb-false}
 use Rattle.isa.specs.declared.Opcode.{Opcode}
-use Rattle.isa.specs.declared.Opcode.the-variants.{Halt}
+use Rattle.isa.specs.declared.Opcode.the-variants.{Halt, VerifyMerkle}
 use Rattle.isa.specs.declared.Op.{Op}
 use Rattle.isa.specs.declared.Op.the-variants.{Known, Unknown}
 use Rattle.isa.specs.declared.Height.{Height}
@@ -102,10 +102,14 @@ ruled t l h = record {
       ap factIn (eqb→eq (getD t n 0) (entryOf (factOf (opcodeOf n))) (every-at ruledBy t h 0 n g)) ∙ entry-says (factOf (opcodeOf n));
 }
 
+-- A match on a number that has passed k.
+pub passed : (k n : ℕ) → k ≤ n → (n ≡ k → ⊥) → suc k ≤ n
+passed k n h d = omega (arith, d)
+
 -- Past the four heights that are listed it is a Ret's.
-pub height-last : (n : ℕ) → 4 ≤ n → heightIn n ≡ Ret
+pub height-last : (n : ℕ) → 4 ≤ n → Ret ≡ heightIn n
 unfolding heightIn
-height-last n h = List·getD-eq-default (Same ∷ Up ∷ Down ∷ Call ∷ []) Ret h
+height-last n h = sym (List·getD-eq-default (Same ∷ Up ∷ Down ∷ Call ∷ []) Ret h)
 
 row-known : (o : Opcode) → rowOf o .known ≡ true
 row-known o = by (rowOf o .known) (each-opcode (λ (p : Opcode). rowOf p .known) tt o)
@@ -146,10 +150,28 @@ is-opcode t r n h e k = ltb-true n 31 (sym (known-at t r n h) ∙ ap (λ (g : Fa
 pub no-opcode : (t : List ℕ) → Ruled t → (n : ℕ) → n < 256 → {f : Fact} → f ≡ factIn (getD t n 0) → f .known ≡ false → 31 ≤ n
 no-opcode t r n h e k = ltb-false n 31 (sym (known-at t r n h) ∙ ap (λ (g : Fact). g .known) (sym e) ∙ k)
 
+-- Past all others it is the last opcode's.
+pub opcode-last : (n : ℕ) → 30 ≤ n → VerifyMerkle ≡ getD opcodes n VerifyMerkle
+opcode-last n h = by (eqb n 30) refl
+  where
+    by : (b : Bool) → eqb n 30 ≡ b → VerifyMerkle ≡ getD opcodes n VerifyMerkle
+    by true e = ap (λ (k : ℕ). getD opcodes k VerifyMerkle) (sym (eqb-true n 30 e))
+    by false e = let g : 31 ≤ n = omega (arith, eqb-false n 30 e) in sym (List·getD-eq-default opcodes VerifyMerkle g)
+
+-- Within a list it does not matter what stands for what is past it.
+listed : {A : Type 0} (l : List A) (n : ℕ) (a b : A) → n < length l → getD l n a ≡ getD l n b
+listed [] n a b h = absurd (omega arith)
+listed (x ∷ l) zero a b h = refl
+listed (x ∷ l) (suc n) a b h = listed l n a b (omega arith)
+
 -- 02: P7: by a ruled table each decision is as it is defined: the opcode of a byte, a word read, its fields alone, a patch.
 pub opcode-by : (t : List ℕ) → Ruled t → (n : ℕ) → n < 256 → opcodeBy t n ≡ opcodeOf n
 unfolding opcodeBy opcodeOf
-opcode-by t r n h = ap (λ (b : Bool). cond b (Known (getD opcodes n Halt)) Unknown) (known-at t r n h)
+opcode-by t r n h = ap (λ (b : Bool). cond b (Known (getD opcodes n VerifyMerkle)) Unknown) (known-at t r n h) ∙ by (ltb n 31) refl
+  where
+    by : (b : Bool) → ltb n 31 ≡ b → cond b (Known (getD opcodes n VerifyMerkle)) Unknown ≡ cond b (Known (getD opcodes n Halt)) Unknown
+    by true e = ap Known (listed opcodes n VerifyMerkle Halt (ltb-true n 31 e))
+    by false e = refl
 
 pub decode-by : (t : List ℕ) → Ruled t → (w : ℕ) → decodeBy t w ≡ decodeOf w
 unfolding decodeBy decodeOf

@@ -1,15 +1,11 @@
 -- `isa::byte::height` meets its contract: each arm is an entry of the list of `heightIn`; the rest is past its end.
 -- Assumes nothing.
-use mathlib.Core.Path.{_≡_, refl, sym}
-use Prim.Native.Nat.{ℕ, suc, _≤_}
+use mathlib.Core.Path.{refl}
 use native.Mathlib.Omega.{arith}
 use Rattle.isa.specs.Facts.{heightIn}
-use Rattle.isa.specs.Ruled.{height-last}
+use Rattle.isa.specs.Ruled.{passed, height-last}
 use Rattle.isa.proofs.byte.height.Statement.{statement}
 use Rattle.isa.proofs.byte.height.Tie as tie
-
-step : (k n : ℕ) → k ≤ n → (n ≡ k → ⊥) → suc k ≤ n
-step k n h d = omega (arith, d)
 
 returns : tie.Need-returns
 unfolding heightIn
@@ -28,7 +24,7 @@ unfolding heightIn
 returns-4 c = rw (c .match .keys4) refl
 
 returns-5 : tie.Need-returns-5
-returns-5 c = sym (height-last _ (step 3 _ (step 2 _ (step 1 _ (step 0 _ (omega arith) (c .match .rest .0 .0 .0 .1)) (c .match .rest .0 .0 .1)) (c .match .rest .0 .1)) (c .match .rest .1)))
+returns-5 c = height-last _ (passed 3 _ (passed 2 _ (passed 1 _ (passed 0 _ (omega arith) (c .match .rest .0 .0 .0 .1)) (c .match .rest .0 .0 .1)) (c .match .rest .0 .1)) (c .match .rest .1))
 
 pub height-spec : {M : Type 1} → statement M
 height-spec = tie.close (tie.spec returns returns-2 returns-3 returns-4 returns-5)
