@@ -3,13 +3,15 @@
 use mathlib.Core.Path.{_≡_, refl, sym, subst}
 use mathlib.Core.Bool.{Bool, true, false, cond}
 use mathlib.Core.List.{List, [], _∷_, _++_, map}
-use Prim.Native.Nat.{ℕ, zero, suc, _%_, _^_}
+use Prim.Native.Nat.{ℕ, suc, _%_, _^_, _<_}
+use native.Mathlib.Omega.{arith}
 use lib.Dec.{T, eqb}
+use lib.ListN.{getD}
 use borrow.Author.Tests.{eqb-true, eqb-false}
 use Rattle.isa.specs.declared.Opcode.{Opcode}
 use Rattle.isa.specs.Word.{numberOf, opcodes}
 use Rattle.isa.specs.Facts.{rowOf}
-use Rattle.isa.specs.Every.{every}
+use Rattle.isa.specs.Every.{every, every-at}
 use Rattle.isa.specs.Laws.{each-opcode}
 use Rattle.rules.specs.Bytes.{Name}
 use Rattle.rules.specs.Refusal.{Res, ok, bad}
@@ -89,12 +91,26 @@ any-at t (n ∷ l) h = by (t n) refl h (any-at t l)
 shown : List ℕ → Operand → Opcode → Bool
 shown ws k o = cond (may k (rowOf o)) (any (sets k o) ws) true
 
-all-shown : (k : Operand) → T (every (λ (i : ℕ) (o : Opcode). shown (wordsIn (program rules sample)) k o) 0 opcodes)
-unfolding computed le join rec bytes binaries sample wordsIn sets any shown
-all-shown rd = tt
-all-shown rs1 = tt
-all-shown rs2 = tt
-all-shown imm = tt
+-- Of each opcode and each field.
+all-shown : List ℕ → Bool
+all-shown ws = every (λ (i : ℕ) (o : Opcode). every (λ (j : ℕ) (k : Operand). shown ws k o) 0 (rd ∷ rs1 ∷ rs2 ∷ imm ∷ [])) 0 opcodes
+
+shown-at : (ws : List ℕ) → T (all-shown ws) → (k : Operand) (o : Opcode) → T (shown ws k o)
+unfolding all-shown
+shown-at ws h k o = by k
+  where
+    of : (j : ℕ) → j < 4 → T (shown ws (getD (rd ∷ rs1 ∷ rs2 ∷ imm ∷ []) j rd) o)
+    of = every-at (λ (j : ℕ) (k : Operand). shown ws k o) (rd ∷ rs1 ∷ rs2 ∷ imm ∷ []) (each-opcode (λ (p : Opcode). every (λ (j : ℕ) (k : Operand). shown ws k p) 0 (rd ∷ rs1 ∷ rs2 ∷ imm ∷ [])) h o) rd
+
+    by : (k : Operand) → T (shown ws k o)
+    by rd = of 0 (omega arith)
+    by rs1 = of 1 (omega arith)
+    by rs2 = of 2 (omega arith)
+    by imm = of 3 (omega arith)
+
+in-sample : T (all-shown (wordsIn (program rules sample)))
+unfolding computed le join rec bytes binaries sample wordsIn sets any shown all-shown
+in-sample = tt
 
 set-by : (k : Operand) (o : Opcode) (n : ℕ) → T (sets k o n) → (n % 2 ^ 8 ≡ numberOf o) × (bitsIn k n ≡ 0 → ⊥)
 unfolding sets
@@ -109,7 +125,7 @@ set-by k o n = by (eqb (n % 2 ^ 8) (numberOf o)) refl (eqb (bitsIn k n) 0) refl
 pub each-set : (k : Operand) (o : Opcode) → may k (rowOf o) ≡ true
     → (P : Program) × (program rules sample ≡ ok P) × (i : ℕ) × (n : ℕ) × At (wordsOf P) i n × (n % 2 ^ 8 ≡ numberOf o) × (bitsIn k n ≡ 0 → ⊥)
 unfolding shown wordsIn any
-each-set k o e = by (program rules sample) refl (subst (λ (b : Bool). T (cond b (any (sets k o) (wordsIn (program rules sample))) true)) e (each-opcode (shown (wordsIn (program rules sample)) k) (all-shown k) o))
+each-set k o e = by (program rules sample) refl (subst (λ (b : Bool). T (cond b (any (sets k o) (wordsIn (program rules sample))) true)) e (shown-at (wordsIn (program rules sample)) in-sample k o))
   where
     by : (r : Res Program) → program rules sample ≡ r → T (any (sets k o) (wordsIn r))
         → (P : Program) × (program rules sample ≡ ok P) × (i : ℕ) × (n : ℕ) × At (wordsOf P) i n × (n % 2 ^ 8 ≡ numberOf o) × (bitsIn k n ≡ 0 → ⊥)
