@@ -33,6 +33,7 @@ pub fn facts() -> [u8; 256]
     FACTS
 }
 
+// The three upper bits of an entry.
 fn height(n: u8) -> Height
     ensures { λ r. ⌜ r ≡ heightIn n ⌝ }
 {
@@ -60,6 +61,7 @@ pub fn fact(facts: &[u8; 256], n: u8) -> Fact
     }
 }
 
+// Each low byte's entry, from 0x00 on.
 const FACTS: [u8; 256] = [
     OPCODE, // Halt
     OPCODE + RD + RS1 + RS2, // Add
