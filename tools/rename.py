@@ -14,7 +14,7 @@ import sys
 
 SPLIT = re.compile(r'([\s(){};,.@"«»]+)')
 DECLARED = re.compile(r"^((?:abbrev |unfoldable |pub |data |record |ruleset |mutual )*)([^\s(){}:;,.◌]+)(?: \{[^{}]*\}| \([^()]*\))* :(?: |$)", re.M)
-BLOCK = re.compile(r"^(?:pub )?(data|record) ([^\s:]+)")
+BLOCK = re.compile(r"^(?:pub )?(data|record|module) ([^\s:]+)")
 MEMBER = re.compile(r"^ +(?:pub )?([^\s(){}:;,.◌]+) :(?: |$)")
 USE = re.compile(r"^\s*(?:pub )?(?:ghost )?use (Rattle\.\w+\.(?:specs|proofs)(?:\.[^\s.{;]+)*)(?:\.\{([^}]*)\})?(?: as ([^\s;]+))?", re.M)
 
@@ -55,11 +55,17 @@ def declared(text):
     for line in text.split("\n"):
         m = BLOCK.match(line)
         if m:
-            names.add(m[2])
+            if m[1] != "module":
+                names.add(m[2])
             block = m[1]
             continue
         if line[:1].strip() and not line.startswith("--"):
             block = None
+        if block == "module":
+            m = DECLARED.match(line[2:]) if line.startswith("  ") else None
+            if m:
+                names.add(m[2])
+            continue
         m = block and MEMBER.match(line)
         if m:
             (members if block == "record" else names).add(m[1])
@@ -166,7 +172,8 @@ def main(argv):
             open(p, "w", encoding="utf-8").write(to)
             changed += 1
     for a, b in MOVED.items():
-        os.rename(os.path.join(root, "crates", a), os.path.join(root, "crates", b))
+        if os.path.exists(os.path.join(root, "crates", a)):
+            os.rename(os.path.join(root, "crates", a), os.path.join(root, "crates", b))
     print(f"{sum(len(m) for m in maps.values())} names of {len(every)}, {changed} files")
     return 0
 

@@ -1,9 +1,9 @@
 -- The table of keys and positions.
 --     one_more     the cells set to 0
 --     starts, passes-by, free-slot, own-slot     the way to a key's slot
---     put-there, was-there     a position noted
---     begin-fields, one_field, end-fields, end-count     the Fields of a struct
---     one-struct, agreed     the structs, and what comes of it
+--     put-there, was_there     a position noted
+--     begin_fields, one_field, end-fields, end-count     the Fields of a struct
+--     one_struct, agreed     the structs, and what comes of it
 -- Assumes nothing.
 use mathlib.Core.Bool.{Bool, true, false}
 use mathlib.Core.List.{List, [], ◌∷◌, map}
@@ -30,7 +30,7 @@ use Rattle.tables.specs.Listed.{structs_in}
 use Rattle.ambiguous.specs.declared.Spot.TheVariants as spot
 use Rattle.ambiguous.specs.Spots.{spot_of, unsure}
 use Rattle.ambiguous.specs.Slots.{look, looked, Extends, Slot, Noted, Held}
-use Rattle.fields.specs.Steps.{field-zero, field_end, field-here, field_next}
+use Rattle.fields.specs.Steps.{field_zero, field_end, field_here, field_next}
 
 pub ext_refl : (t : List ℕ) → Extends t t
 ext_refl t = record { keys = λ h f. refl; values = λ h f. refl }
@@ -54,33 +54,33 @@ module _ (t : List ℕ) (key : ℕ) where
   look_hit zero h z f e = absurd (z refl)
   look_hit (suc k) h z f e = simp (ne_eqb (get_or t (2 * h + 1) 0) 0 f, eq-eqb (get_or t (2 * h) 0) key e)
 
-  look-past : (k h : ℕ) → (k ≡ 0 → ⊥) → (get_or t (2 * h + 1) 0 ≡ 0 → ⊥) → (get_or t (2 * h) 0 ≡ key → ⊥) → look t key k h ≡ look t key (k - 1) ((h + 1) % 509)
+  look_past : (k h : ℕ) → (k ≡ 0 → ⊥) → (get_or t (2 * h + 1) 0 ≡ 0 → ⊥) → (get_or t (2 * h) 0 ≡ key → ⊥) → look t key k h ≡ look t key (k - 1) ((h + 1) % 509)
   unfolding look pick
-  look-past zero h z f e = absurd (z refl)
-  look-past (suc k) h z f e = simp (ne_eqb (get_or t (2 * h + 1) 0) 0 f, ne_eqb (get_or t (2 * h) 0) key e, sub-one)
+  look_past zero h z f e = absurd (z refl)
+  look_past (suc k) h z f e = simp (ne_eqb (get_or t (2 * h + 1) 0) 0 f, ne_eqb (get_or t (2 * h) 0) key e, sub-one)
 
 -- What was found is found in a larger table.
 module _ (t u : List ℕ) (key s : ℕ) (x : Extends t u) where
-  one-slot : (k h : ℕ) → (look t key k ((h + 1) % 509) ≡ suc s → look u key k ((h + 1) % 509) ≡ suc s)
+  one_slot : (k h : ℕ) → (look t key k ((h + 1) % 509) ≡ suc s → look u key k ((h + 1) % 509) ≡ suc s)
       → (a : Bool) → eqb (get_or t (2 * h + 1) 0) 0 ≡ a → (b : Bool) → eqb (get_or t (2 * h) 0) key ≡ b → look t key (suc k) h ≡ suc s → look u key (suc k) h ≡ suc s
   unfolding look pick
-  one-slot k h r true p b q e = absurd (let z : 0 ≡ suc s = rw p at e in omega arith)
-  one-slot k h r false p true q e =
+  one_slot k h r true p b q e = absurd (let z : 0 ≡ suc s = rw p at e in omega arith)
+  one_slot k h r false p true q e =
       let f : get_or t (2 * h + 1) 0 ≡ 0 → ⊥ = eqb-false _ _ p in
       let y : get_or t (2 * h + 1) 0 ≡ suc s = rw (p, q) at e in
       look_hit u key (suc k) h (λ z. omega arith) (λ z. f (sym (x.values h f) ∙ z)) (x.keys h f ∙ eqb-true _ _ q) ∙ x.values h f ∙ y
-  one-slot k h r false p false q e =
+  one_slot k h r false p false q e =
       let f : get_or t (2 * h + 1) 0 ≡ 0 → ⊥ = eqb-false _ _ p in
       let y : look t key k ((h + 1) % 509) ≡ suc s = rw (p, q) at e in
-      look-past u key (suc k) h (λ z. omega arith) (λ z. f (sym (x.values h f) ∙ z)) (λ z. eqb-false _ _ q (sym (x.keys h f) ∙ z)) ∙ rw sub-one (r y)
+      look_past u key (suc k) h (λ z. omega arith) (λ z. f (sym (x.values h f) ∙ z)) (λ z. eqb-false _ _ q (sym (x.keys h f) ∙ z)) ∙ rw sub-one (r y)
 
-  no-slots : (h : ℕ) → look t key 0 h ≡ suc s → look u key 0 h ≡ suc s
+  no_slots : (h : ℕ) → look t key 0 h ≡ suc s → look u key 0 h ≡ suc s
   unfolding look
-  no-slots h e = absurd (omega arith)
+  no_slots h e = absurd (omega arith)
 
   grows : (k h : ℕ) → look t key k h ≡ suc s → look u key k h ≡ suc s
-  grows zero h e = no-slots h e
-  grows (suc k) h e = one-slot k h (grows k ((h + 1) % 509)) (eqb (get_or t (2 * h + 1) 0) 0) refl (eqb (get_or t (2 * h) 0) key) refl e
+  grows zero h e = no_slots h e
+  grows (suc k) h e = one_slot k h (grows k ((h + 1) % 509)) (eqb (get_or t (2 * h + 1) 0) 0) refl (eqb (get_or t (2 * h) 0) key) refl e
 
 -- The way to a key's slot: k slots are left from h on.
 pub record Way (t : List ℕ) (key k h : ℕ) : Type 0 where
@@ -95,7 +95,7 @@ module _ (t : List ℕ) (key : ℕ) where
     pub passes-by : (get_or t (2 * h + 1) 0 ≡ 0 → ⊥) → (get_or t (2 * h) 0 ≡ key → ⊥) → Way t key (k - 1) ((h + 1) % 509)
     passes-by f e = record {
       below = mod-lt (h + 1) (omega arith);
-      same = λ u x. w.same u x ∙ look-past u key k h z (λ y. f (sym (x.values h f) ∙ y)) (λ y. e (sym (x.keys h f) ∙ y));
+      same = λ u x. w.same u x ∙ look_past u key k h z (λ y. f (sym (x.values h f) ∙ y)) (λ y. e (sym (x.keys h f) ∙ y));
     }
 
     leads : (u : List ℕ) → Extends t u → get_or u (2 * h) 0 ≡ key → (get_or u (2 * h + 1) 0 ≡ 0 → ⊥) → looked u key ≡ get_or u (2 * h + 1) 0
@@ -145,8 +145,8 @@ module _ (t : List ℕ) (key n h : ℕ) (s : Slot t key h) where
       is = s.leads new grown key-cell (λ z. omega (arith, value_cell)) ∙ value_cell ∙ add-one n;
     }
 
-  pub was-there : (get_or t (2 * h + 1) 0 ≡ 0 → ⊥) → eqb (get_or t (2 * h + 1) 0) (n + 1) ≡ true → Noted t t key n
-  was-there f e = record {
+  pub was_there : (get_or t (2 * h + 1) 0 ≡ 0 → ⊥) → eqb (get_or t (2 * h + 1) 0) (n + 1) ≡ true → Noted t t key n
+  was_there f e = record {
     extends = ext_refl t;
     is = s.leads t (ext_refl t) (s.held f) f ∙ eqb-true _ _ e ∙ add-one n;
   }
@@ -157,9 +157,9 @@ module _ (img : List ℕ) (l : ℕ) where
     pub each : (x : Name) (m : ℕ) → first_index (λ (f : Field). f.name) 0 x (fields_at 64 img l) ≡ some m
         → (looked t (key_of x) ≡ suc m) ⊎ (first_index (λ (f : Field). f.name) n x (map (field_at img) (places_from (64 - n) img p e)) ≡ some m)
 
-  pub begin-fields : (t : List ℕ) → Told t 0 (inside img l) (after img l)
+  pub begin_fields : (t : List ℕ) → Told t 0 (inside img l) (after img l)
   unfolding fields_at
-  begin-fields t = record { each = λ x m q. inr q }
+  begin_fields t = record { each = λ x m q. inr q }
 
   module _ (t : List ℕ) (n p e : ℕ) where
     lost : {m : ℕ} → none ≡ some m → ⊥
@@ -173,7 +173,7 @@ module _ (img : List ℕ) (l : ℕ) where
         either x m (inr b) = absurd (lost (none_left x ∙ b))
 
     pub end-count : 64 ≤ n → Told t n p e → Held img t l
-    end-count h = ended (λ x. field-zero img x 64 n p e h)
+    end-count h = ended (λ x. field_zero img x 64 n p e h)
 
     pub end-fields : e ≤ p → Told t n p e → Held img t l
     end-fields h = ended (λ x. field_end img x 64 n p e h)
@@ -183,7 +183,7 @@ module _ (img : List ℕ) (l : ℕ) where
           → first_index (λ (f : Field). f.name) n x (map (field_at img) (places_from (64 - n) img p e)) ≡ some m
           → (looked u (key_of x) ≡ suc m) ⊎ (first_index (λ (f : Field). f.name) (n + 1) x (map (field_at img) (places_from (64 - (n + 1)) img (after img p) e)) ≡ some m)
       now x m true c q =
-          let y : some n ≡ some m = field-here img x 64 n p e h b c ∙ q in
+          let y : some n ≡ some m = field_here img x 64 n p e h b c ∙ q in
           let k : n ≡ m = cc in
           inl (rw (← name_eq (name_in img p) x c, ← k) w.is)
       now x m false c q = inr (sym (field_next img x 64 n p e h b c) ∙ q)
@@ -198,16 +198,16 @@ module _ (img : List ℕ) (l : ℕ) where
 
 -- The structs.
 module _ (img : List ℕ) where
-  pub still-held : {t u : List ℕ} (l : ℕ) → Extends t u → Held img t l → Held img u l
-  still-held {t} {u} l x h = record { at = λ y m q. grows t u (key_of y) m x 509 (key_of y % 509) (h.at y m q) }
+  pub still_held : {t u : List ℕ} (l : ℕ) → Extends t u → Held img t l → Held img u l
+  still_held {t} {u} l x h = record { at = λ y m q. grows t u (key_of y) m x 509 (key_of y % 509) (h.at y m q) }
 
-  pub one-struct : {t u : List ℕ} (i : ℕ) → ((j : ℕ) → j < i → Held img t (second img (get_or (structs_in img) j 0))) → Extends t u → Held img u (second img (get_or (structs_in img) i 0))
+  pub one_struct : {t u : List ℕ} (i : ℕ) → ((j : ℕ) → j < i → Held img t (second img (get_or (structs_in img) j 0))) → Extends t u → Held img u (second img (get_or (structs_in img) i 0))
       → (j : ℕ) → j < i + 1 → Held img u (second img (get_or (structs_in img) j 0))
-  one-struct {t} {u} i all x h j b = here (eqb j i) refl
+  one_struct {t} {u} i all x h j b = here (eqb j i) refl
     where
       here : (c : Bool) → eqb j i ≡ c → Held img u (second img (get_or (structs_in img) j 0))
       here true q = rw (eqb-true j i q) h
-      here false q = still-held (second img (get_or (structs_in img) j 0)) x (all j (omega (arith, eqb-false j i q)))
+      here false q = still_held (second img (get_or (structs_in img) j 0)) x (all j (omega (arith, eqb-false j i q)))
 
   abbrev pub AllHeld : List ℕ → List ℕ → Type 0
   AllHeld t ps = (j : ℕ) → j < length ps → Held img t (second img (get_or ps j 0))

@@ -37,51 +37,51 @@ stmt_kind (suc d) img i k K h e q = rw (← e, q) (simp sub-one)
 
 -- Lists: none is left, or one more.
 module _ (f : ℕ → Expr) (img : List ℕ) where
-  pub exprs-zero : (k p e : ℕ) → k ≡ 0 → exprs_from k f img p e ≡ Exprs.none
+  pub exprs_zero : (k p e : ℕ) → k ≡ 0 → exprs_from k f img p e ≡ Exprs.none
   unfolding exprs_from
-  exprs-zero zero p e h = refl
-  exprs-zero (suc k) p e h = absurd (omega arith)
+  exprs_zero zero p e h = refl
+  exprs_zero (suc k) p e h = absurd (omega arith)
 
-  pub exprs-end : (k p e : ℕ) → e ≤ p → exprs_from k f img p e ≡ Exprs.none
+  pub exprs_end : (k p e : ℕ) → e ≤ p → exprs_from k f img p e ≡ Exprs.none
   unfolding exprs_from
-  exprs-end zero p e h = refl
-  exprs-end (suc k) p e h = simp (le-ltb _ _ h)
+  exprs_end zero p e h = refl
+  exprs_end (suc k) p e h = simp (le-ltb _ _ h)
 
-  pub exprs-more : (k p e : ℕ) → (k ≡ 0 → ⊥) → p < e → exprs_from k f img p e ≡ Exprs.more (f p) (exprs_from (k - 1) f img (after img p) e)
+  pub exprs_more : (k p e : ℕ) → (k ≡ 0 → ⊥) → p < e → exprs_from k f img p e ≡ Exprs.more (f p) (exprs_from (k - 1) f img (after img p) e)
   unfolding exprs_from
-  exprs-more zero p e h l = absurd (h refl)
-  exprs-more (suc k) p e h l = simp (lt-ltb _ _ l, sub-one)
+  exprs_more zero p e h l = absurd (h refl)
+  exprs_more (suc k) p e h l = simp (lt-ltb _ _ l, sub-one)
 
-  pub inits-zero : (k p e : ℕ) → k ≡ 0 → inits_from k f img p e ≡ Inits.no-init
+  pub inits_zero : (k p e : ℕ) → k ≡ 0 → inits_from k f img p e ≡ Inits.no-init
   unfolding inits_from
-  inits-zero zero p e h = refl
-  inits-zero (suc k) p e h = absurd (omega arith)
+  inits_zero zero p e h = refl
+  inits_zero (suc k) p e h = absurd (omega arith)
 
-  pub inits-end : (k p e : ℕ) → e ≤ p → inits_from k f img p e ≡ Inits.no-init
+  pub inits_end : (k p e : ℕ) → e ≤ p → inits_from k f img p e ≡ Inits.no-init
   unfolding inits_from
-  inits-end zero p e h = refl
-  inits-end (suc k) p e h = simp (le-ltb _ _ h)
+  inits_end zero p e h = refl
+  inits_end (suc k) p e h = simp (le-ltb _ _ h)
 
-  pub inits-more : (k p e : ℕ) → (k ≡ 0 → ⊥) → p < e → inits_from k f img p e ≡ Inits.init p (name_in img p) (f (second img p)) (inits_from (k - 1) f img (after img p) e)
+  pub inits_more : (k p e : ℕ) → (k ≡ 0 → ⊥) → p < e → inits_from k f img p e ≡ Inits.init p (name_in img p) (f (second img p)) (inits_from (k - 1) f img (after img p) e)
   unfolding inits_from
-  inits-more zero p e h l = absurd (h refl)
-  inits-more (suc k) p e h l = simp (lt-ltb _ _ l, sub-one)
+  inits_more zero p e h l = absurd (h refl)
+  inits_more (suc k) p e h l = simp (lt-ltb _ _ l, sub-one)
 
 module _ (f : ℕ → Stmt) (img : List ℕ) where
-  pub stmts-zero : (k p e : ℕ) → k ≡ 0 → stmts_from k f img p e ≡ Stmts.none
+  pub stmts_zero : (k p e : ℕ) → k ≡ 0 → stmts_from k f img p e ≡ Stmts.none
   unfolding stmts_from
-  stmts-zero zero p e h = refl
-  stmts-zero (suc k) p e h = absurd (omega arith)
+  stmts_zero zero p e h = refl
+  stmts_zero (suc k) p e h = absurd (omega arith)
 
-  pub stmts-end : (k p e : ℕ) → e ≤ p → stmts_from k f img p e ≡ Stmts.none
+  pub stmts_end : (k p e : ℕ) → e ≤ p → stmts_from k f img p e ≡ Stmts.none
   unfolding stmts_from
-  stmts-end zero p e h = refl
-  stmts-end (suc k) p e h = simp (le-ltb _ _ h)
+  stmts_end zero p e h = refl
+  stmts_end (suc k) p e h = simp (le-ltb _ _ h)
 
-  pub stmts-more : (k p e : ℕ) → (k ≡ 0 → ⊥) → p < e → stmts_from k f img p e ≡ Stmts.more (f p) (stmts_from (k - 1) f img (after img p) e)
+  pub stmts_more : (k p e : ℕ) → (k ≡ 0 → ⊥) → p < e → stmts_from k f img p e ≡ Stmts.more (f p) (stmts_from (k - 1) f img (after img p) e)
   unfolding stmts_from
-  stmts-more zero p e h l = absurd (h refl)
-  stmts-more (suc k) p e h l = simp (lt-ltb _ _ l, sub-one)
+  stmts_more zero p e h l = absurd (h refl)
+  stmts_more (suc k) p e h l = simp (lt-ltb _ _ l, sub-one)
 
   module _ (l e : ℕ) {a b : ℕ} (ha : a ≡ l) (hb : b ≡ e) where
     pub else-there : a < b → else_at f img l e ≡ body_at f img l
@@ -94,10 +94,10 @@ module _ (f : ℕ → Stmt) (img : List ℕ) where
 
 -- A Return with a value, and one without.
 module _ (img : List ℕ) (i : ℕ) {v n : ℕ} (hv : v ≡ inside img i) (hn : n ≡ after img i) (g : ℕ → Expr) (f : ℕ → Stmt) where
-  pub return-there : v < n → stmt_as sReturn g f img i ≡ Stmt.return i (g (inside img i))
+  pub return_there : v < n → stmt_as sReturn g f img i ≡ Stmt.return i (g (inside img i))
   unfolding stmt_as
-  return-there h = let l : inside img i < after img i = rw (← hv, ← hn) h in simp (lt-ltb _ _ l)
+  return_there h = let l : inside img i < after img i = rw (← hv, ← hn) h in simp (lt-ltb _ _ l)
 
-  pub return-not : n ≤ v → stmt_as sReturn g f img i ≡ Stmt.return-none i
+  pub return_not : n ≤ v → stmt_as sReturn g f img i ≡ Stmt.return-none i
   unfolding stmt_as
-  return-not h = let l : after img i ≤ inside img i = rw (← hv, ← hn) h in simp (le-ltb _ _ l)
+  return_not h = let l : after img i ≤ inside img i = rw (← hv, ← hn) h in simp (le-ltb _ _ l)

@@ -2,7 +2,7 @@
 --     then_first, then_second     of two: the first is one, or it is none
 --     args-.., inits-.., stmts-..     of a List: none is left, this one is one, this one is none
 --     functions-..     of the functions
---     no-ambiguous     where no field is ambiguous there is no answer
+--     no_ambiguous     where no field is ambiguous there is no answer
 -- Assumes nothing.
 use mathlib.Core.List.{List, [], ◌∷◌, map}
 use mathlib.Core.Option.{Option, none, some}
@@ -18,14 +18,14 @@ use Rattle.rules.specs.Bytes.{pick, Name, after}
 use Rattle.rules.specs.Tables.{or_else}
 use Rattle.rules.specs.Tree.{Expr, Exprs, Inits, Stmt, Stmts, Function, Contract}
 use Rattle.rules.specs.Read.{kind_of, kInt, kIdent, kStorage, kOther, expr_as, exprs_from, inits_from, stmt_at_lem, stmts_from, body_at, function_at, contract_at, second, fifth}
-use Rattle.rules.specs.Ambiguous.{is_ambiguous_lem, inExpr, inExprs, inInits, inStmt, inStmts, inFunctions, first_ambiguous_lem}
+use Rattle.rules.specs.Ambiguous.{is_ambiguous_lem, inExpr, inExprs, inInits, inStmt, inStmts, in_functions, first_ambiguous_lem}
 use Rattle.before.specs.Old.{ambiguous_before}
 use Rattle.before.specs.Meant.{still-clear}
 use Rattle.tables.specs.Listed.{functions_in}
 use Rattle.ambiguous.specs.declared.Spot.{Spot}
 use Rattle.ambiguous.specs.declared.Spot.TheVariants as spot
 use Rattle.ambiguous.specs.Spots.{spot_of, unsure}
-use Rattle.ambiguous.proofs.Trees.{exprs-zero, exprs-end, exprs-more, inits-zero, inits-end, inits-more, stmts-zero, stmts-end, stmts-more}
+use Rattle.ambiguous.proofs.Trees.{exprs_zero, exprs_end, exprs_more, inits_zero, inits_end, inits_more, stmts_zero, stmts_end, stmts_more}
 
 pub then_first : {a : Spot} {p : ℕ} {x : Option ℕ} (y : Option ℕ) → a ≡ spot.At p → spot_of a ≡ x → spot_of a ≡ or_else x y
 unfolding spot_of or_else
@@ -53,54 +53,54 @@ module _ (C : Contract) (img : List ℕ) where
   module _ (f : ℕ → Expr) (k p e : ℕ) where
     pub args-zero : k ≡ 0 → none ≡ inExprs C (exprs_from k f img p e)
     unfolding inExprs
-    args-zero h = rw (exprs-zero f img k p e h)
+    args-zero h = rw (exprs_zero f img k p e h)
 
     pub args_end : e ≤ p → none ≡ inExprs C (exprs_from k f img p e)
     unfolding inExprs
-    args_end h = rw (exprs-end f img k p e h)
+    args_end h = rw (exprs_end f img k p e h)
 
     pub inits-none : k ≡ 0 → none ≡ inInits C (inits_from k f img p e)
     unfolding inInits
-    inits-none h = rw (inits-zero f img k p e h)
+    inits-none h = rw (inits_zero f img k p e h)
 
     pub inits-over : e ≤ p → none ≡ inInits C (inits_from k f img p e)
     unfolding inInits
-    inits-over h = rw (inits-end f img k p e h)
+    inits-over h = rw (inits_end f img k p e h)
 
     module _ (h : k ≡ 0 → ⊥) (l : p < e) {a : Spot} where
       pub args-here : {q : ℕ} → a ≡ spot.At q → spot_of a ≡ inExpr C (f p) → spot_of a ≡ inExprs C (exprs_from k f img p e)
       unfolding inExprs
-      args-here q w = rw (exprs-more f img k p e h l) (then_first _ q w)
+      args-here q w = rw (exprs_more f img k p e h l) (then_first _ q w)
 
       pub args-next : a ≡ spot.Nowhere → spot_of a ≡ inExpr C (f p) → inExprs C (exprs_from k f img p e) ≡ inExprs C (exprs_from (k - 1) f img (after img p) e)
       unfolding inExprs spot_of or_else
-      args-next q w = rw (exprs-more f img k p e h l, ← w, q)
+      args-next q w = rw (exprs_more f img k p e h l, ← w, q)
 
       pub inits-here : {q : ℕ} → a ≡ spot.At q → spot_of a ≡ inExpr C (f (second img p)) → spot_of a ≡ inInits C (inits_from k f img p e)
       unfolding inInits
-      inits-here q w = rw (inits-more f img k p e h l) (then_first _ q w)
+      inits-here q w = rw (inits_more f img k p e h l) (then_first _ q w)
 
       pub inits-next : a ≡ spot.Nowhere → spot_of a ≡ inExpr C (f (second img p)) → inInits C (inits_from k f img p e) ≡ inInits C (inits_from (k - 1) f img (after img p) e)
       unfolding inInits spot_of or_else
-      inits-next q w = rw (inits-more f img k p e h l, ← w, q)
+      inits-next q w = rw (inits_more f img k p e h l, ← w, q)
 
   module _ (f : ℕ → Stmt) (k p e : ℕ) where
     pub body-zero : k ≡ 0 → none ≡ inStmts C (stmts_from k f img p e)
     unfolding inStmts
-    body-zero h = rw (stmts-zero f img k p e h)
+    body-zero h = rw (stmts_zero f img k p e h)
 
     pub body_end : e ≤ p → none ≡ inStmts C (stmts_from k f img p e)
     unfolding inStmts
-    body_end h = rw (stmts-end f img k p e h)
+    body_end h = rw (stmts_end f img k p e h)
 
     module _ (h : k ≡ 0 → ⊥) (l : p < e) {a : Spot} where
       pub body-here : {q : ℕ} → a ≡ spot.At q → spot_of a ≡ inStmt C (f p) → spot_of a ≡ inStmts C (stmts_from k f img p e)
       unfolding inStmts
-      body-here q w = rw (stmts-more f img k p e h l) (then_first _ q w)
+      body-here q w = rw (stmts_more f img k p e h l) (then_first _ q w)
 
       pub body-next : a ≡ spot.Nowhere → spot_of a ≡ inStmt C (f p) → inStmts C (stmts_from k f img p e) ≡ inStmts C (stmts_from (k - 1) f img (after img p) e)
       unfolding inStmts spot_of or_else
-      body-next q w = rw (stmts-more f img k p e h l, ← w, q)
+      body-next q w = rw (stmts_more f img k p e h l, ← w, q)
 
 -- Expressions that hold no other.
 module _ (C : Contract) (f : ℕ → Expr) (img : List ℕ) (i : ℕ) where
@@ -111,31 +111,31 @@ module _ (C : Contract) (f : ℕ → Expr) (img : List ℕ) (i : ℕ) where
   leaf false false true = refl
   leaf false false false = refl
 
-  pub leaf-kind : (k : ℕ) → (k ≡ 67 → ⊥) → (k ≡ 68 → ⊥) → (k ≡ 69 → ⊥) → (k ≡ 70 → ⊥) → (k ≡ 71 → ⊥) → none ≡ inExpr C (expr_as (kind_of k) f img i)
+  pub leaf_kind : (k : ℕ) → (k ≡ 67 → ⊥) → (k ≡ 68 → ⊥) → (k ≡ 69 → ⊥) → (k ≡ 70 → ⊥) → (k ≡ 71 → ⊥) → none ≡ inExpr C (expr_as (kind_of k) f img i)
   unfolding kind_of pick
-  leaf-kind k a b c d e = simp (ne_eqb k 67 a, ne_eqb k 68 b, ne_eqb k 69 c, ne_eqb k 70 d, ne_eqb k 71 e) (leaf (eqb k 64) (eqb k 65) (eqb k 66))
+  leaf_kind k a b c d e = simp (ne_eqb k 67 a, ne_eqb k 68 b, ne_eqb k 69 c, ne_eqb k 70 d, ne_eqb k 71 e) (leaf (eqb k 64) (eqb k 65) (eqb k 66))
 
 -- The functions from index i on.
 unfoldable pub functions_from : List ℕ → ℕ → Option ℕ
-functions_from img i = inFunctions (contract_at img) (map (function_at img) (drop i (functions_in img)))
+functions_from img i = in_functions (contract_at img) (map (function_at img) (drop i (functions_in img)))
 
 module _ (img : List ℕ) where
-  pub functions-all : first_ambiguous_lem (contract_at img) ≡ functions_from img 0
+  pub functions_all : first_ambiguous_lem (contract_at img) ≡ functions_from img 0
   unfolding first_ambiguous_lem functions_from contract_at
-  functions-all = refl
+  functions_all = refl
 
   module _ (i : ℕ) where
     pub functions-over : length (functions_in img) ≤ i → none ≡ functions_from img i
-    unfolding functions_from inFunctions
+    unfolding functions_from in_functions
     functions-over h = rw (drop_of_length-le (functions_in img) h)
 
     module _ (h : i < length (functions_in img)) {a : Spot} where
       pub functions-here : {q : ℕ} → a ≡ spot.At q → spot_of a ≡ inStmts (contract_at img) (body_at (stmt_at_lem 64 img) img (fifth img (get_or (functions_in img) i 0))) → spot_of a ≡ functions_from img i
-      unfolding functions_from inFunctions function_at
+      unfolding functions_from in_functions function_at
       functions-here q w = rw (drop-cons (functions_in img) i 0 h) (then_first _ q w)
 
       pub functions-next : a ≡ spot.Nowhere → spot_of a ≡ inStmts (contract_at img) (body_at (stmt_at_lem 64 img) img (fifth img (get_or (functions_in img) i 0))) → functions_from img i ≡ functions_from img (i + 1)
-      unfolding functions_from inFunctions function_at spot_of or_else
+      unfolding functions_from in_functions function_at spot_of or_else
       functions-next q w = rw (drop-cons (functions_in img) i 0 h, ← w, q, add-one)
 
 -- Where no field is ambiguous there is no answer.
@@ -189,11 +189,11 @@ module _ (C : Contract) (clear : (x : Name) → unsure C x ≡ false) where
     no-stmts Stmts.none = refl
     no-stmts (Stmts.more s ss) = rw (no-stmt s, no-stmts ss)
 
-  no-functions : (fs : List Function) → inFunctions C fs ≡ none
-  unfolding inFunctions or_else
-  no-functions [] = refl
-  no-functions (f ∷ fs) = rw (no-stmts f.body, no-functions fs)
+  no_functions : (fs : List Function) → in_functions C fs ≡ none
+  unfolding in_functions or_else
+  no_functions [] = refl
+  no_functions (f ∷ fs) = rw (no-stmts f.body, no_functions fs)
 
-  pub no-ambiguous : none ≡ first_ambiguous_lem C
+  pub no_ambiguous : none ≡ first_ambiguous_lem C
   unfolding first_ambiguous_lem
-  no-ambiguous = sym (no-functions C.functions)
+  no_ambiguous = sym (no_functions C.functions)

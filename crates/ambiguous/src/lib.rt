@@ -1,4 +1,6 @@
 // 01: For 30: the first access in the image whose field has another first position in another struct.
+#![tactic(auto)]
+
 ghost use Rattle.std.specs.Prelude.{◌≡◌};
 ghost use Rattle.rules.specs.Bytes.{inside, after};
 ghost use Rattle.rules.specs.Tables.{or_else};
@@ -11,7 +13,7 @@ mod agree;
 mod apart;
 
 // The place of an access (in agree.rt: the slot of a key).
-#[derive(Drop)]
+#[derive(Clone, Copy)]
 pub enum Spot {
     At(usize),
     Nowhere,

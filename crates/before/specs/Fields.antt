@@ -67,21 +67,21 @@ module _ (P : ℕ → Type 0) (x : Name) where
   rest none s l h = less _ _ h
 
   -- of one that is kept;
-  kept-one : (o : Option Struct) → o ≡ none → (s : Struct) (l : List Struct) → Each P (positions x (kept o s l)) → Opt P (first_index field_name 0 x s.fields)
+  kept_one : (o : Option Struct) → o ≡ none → (s : Struct) (l : List Struct) → Each P (positions x (kept o s l)) → Opt P (first_index field_name 0 x s.fields)
   unfolding kept positions
-  kept-one (some t) e s l h = some_none t e
-  kept-one none e s l h = first _ _ h
+  kept_one (some t) e s l h = some_none t e
+  kept_one none e s l h = first _ _ h
 
   -- so of the struct of a name, as last declared.
-  pub of-declared : (y : Name) (ss : List Struct) → Each P (positions x (layouts ss)) → (d : Struct) → last struct_name y ss ≡ some d → Opt P (first_index field_name 0 x d.fields)
+  pub of_declared : (y : Name) (ss : List Struct) → Each P (positions x (layouts ss)) → (d : Struct) → last struct_name y ss ≡ some d → Opt P (first_index field_name 0 x d.fields)
   unfolding layouts last or_else pick
-  of-declared y [] h d e = some_none d (sym e)
-  of-declared y (s ∷ ss) h d e = by (last struct_name y ss) refl e (of-declared y ss (rest _ s (layouts ss) h) d)
+  of_declared y [] h d e = some_none d (sym e)
+  of_declared y (s ∷ ss) h d e = by (last struct_name y ss) refl e (of_declared y ss (rest _ s (layouts ss) h) d)
     where
       here : (b : Bool) → eq_name s.name y ≡ b → last struct_name y ss ≡ none → pick b (some s) none ≡ some d → Opt P (first_index field_name 0 x d.fields)
       here true n z g =
           subst (λ (t : Struct). Opt P (first_index field_name 0 x t.fields)) (some_same s d g)
-          (kept-one (last struct_name s.name ss) (subst (λ z. last struct_name z ss ≡ none) (sym (name_eq s.name y n)) z) s (layouts ss) h)
+          (kept_one (last struct_name s.name ss) (subst (λ z. last struct_name z ss ≡ none) (sym (name_eq s.name y n)) z) s (layouts ss) h)
       here false n z g = some_none d (sym g)
 
       by : (o : Option Struct) → last struct_name y ss ≡ o → or_else o (pick (eq_name s.name y) (some s) none) ≡ some d

@@ -14,12 +14,12 @@ use Rattle.rules.specs.Link.{Program, functions, with_main, generate}
 use Rattle.rules.specs.Build.{clear, analysed, judged, program}
 use Rattle.before.specs.Old.{first_before, generate_before, judged_before, program_before}
 use Rattle.before.specs.Meant.{bad_ok}
-use Rattle.before.specs.Same.{in_turn, functions-clear, functions-same}
+use Rattle.before.specs.Same.{in_turn, functions_clear, functions-same}
 
 -- A contract with no ambiguous access in the old sense: no 30,
 pub none_now : (C : Contract) → first_before C ≡ none → first_ambiguous_lem C ≡ none
 unfolding first_before first_ambiguous_lem
-none_now C h = functions-clear C C.functions h
+none_now C h = functions_clear C C.functions h
 
 -- and generation gives what it gave, whatever the rules.
 pub generated_same : (R : Rules) (C : Contract) → first_before C ≡ none → generate R C ≡ generate_before R C

@@ -15,7 +15,7 @@ use Rattle.rules.specs.Meant.{Access, accesses, base_at}
 use Rattle.rules.specs.Layout.{with_position, positions, first_of, declared, among, choices, offset}
 use Rattle.rules.specs.Machine.{Imm}
 use Rattle.rules.specs.Emit.{Rules, Scope, Open, Value, emit}
-use Rattle.rules.specs.Generate.{alloc-reg, expr}
+use Rattle.rules.specs.Generate.{alloc_reg_lem, expr}
 use Rattle.rules.specs.declared.Seen.TheVariants.{Sound}
 use Rattle.rules.specs.Check.{check_of}
 use Rattle.rules.specs.Read.{contract_at}
@@ -23,7 +23,7 @@ use Rattle.records.specs.Names.{name_refl}
 use Rattle.bounds.specs.Held.{Each}
 use Rattle.bounds.specs.Sparse.{Apart}
 use Rattle.bounds.specs.ContractOf.{accesses_sparse}
-use Rattle.before.specs.Meant.{bad_ok, meant-has}
+use Rattle.before.specs.Meant.{bad_ok, meant_has}
 
 -- Where no two stand at one place, each is the one that is found by its place and field.
 base_later : (a : Access) (l k : List Access) → Each (λ (b : Access). a.place / 3 ≡ b.place / 3 → ⊥) k → Each (λ (b : Access). base_at b.place b.field l ≡ b.base) k
@@ -55,21 +55,21 @@ module _ (R : Rules) (C : Contract) (p : ℕ) (e : Expr) (x : Name) (s : Scope) 
   loaded u (ok r) h = (u.code, (r, (u.reg, sym (ap code_of h))))
   loaded u (bad q) h = bad_ok q v h
 
-  behind-base : (m : Res Value) → (m >>= λ u. alloc-reg R C p u.next >>= λ r. ok (loading u r)) ≡ ok v → EndsWithLoad p (offset C p x) v.code
+  behind_base : (m : Res Value) → (m >>= λ u. alloc_reg_lem R C p u.next >>= λ r. ok (loading u r)) ≡ ok v → EndsWithLoad p (offset C p x) v.code
   unfolding ◌>>=◌
-  behind-base (ok u) h = loaded u (alloc-reg R C p u.next) h
-  behind-base (bad q) h = bad_ok q v h
+  behind_base (ok u) h = loaded u (alloc_reg_lem R C p u.next) h
+  behind_base (bad q) h = bad_ok q v h
 
-  pub access-load : expr R C (Expr.field-access p e x) s n ≡ ok v → EndsWithLoad p (offset C p x) v.code
+  pub access_load : expr R C (Expr.field-access p e x) s n ≡ ok v → EndsWithLoad p (offset C p x) v.code
   unfolding expr loading
-  access-load h = behind-base (expr R C e s n) h
+  access_load h = behind_base (expr R C e s n) h
 
 -- Where one struct is meant and has the field, that is the offset.
 module _ (C : Contract) (p : ℕ) (x : Name) (d : Struct) (e : declared C (base_at p x (accesses C)) ≡ some d) where
   at_first : (o : Option ℕ) → first_index field_name 0 x d.fields ≡ o → (i : ℕ) × ((first_index field_name 0 x d.fields ≡ some i) × (offset C p x ≡ i * 8))
   unfolding offset choices among positions with_position first_of
   at_first (some i) h = (i, (h, rw (e, h)))
-  at_first none h = absurd (meant-has C p x d e h)
+  at_first none h = absurd (meant_has C p x d e h)
 
 -- 02: P2: what the Load of an access has.
 unfoldable pub Meant : Contract → Access → Type 0
@@ -84,7 +84,7 @@ meant_each C (a ∷ l) h = (one, meant_each C l h.1)
     one : Meant C a
     one d e =
         let g = at_first C a.place a.field d (ap (declared C) h.0 ∙ e) _ refl in
-        (g.0, (g.1.0, λ R f s n v z. subst (λ k. EndsWithLoad a.place k v.code) g.1.1 (access-load R C a.place f a.field s n v z)))
+        (g.0, (g.1.0, λ R f s n v z. subst (λ k. EndsWithLoad a.place k v.code) g.1.1 (access_load R C a.place f a.field s n v z)))
 
 pub meant_loads : (img : List ℕ) (q m : ℕ) → check_of img ≡ Sound q m → Each (Meant (contract_at img)) (accesses (contract_at img))
 meant_loads img q m e = meant_each (contract_at img) (accesses (contract_at img)) (base_found (accesses (contract_at img)) (accesses_sparse img q m e).apart)

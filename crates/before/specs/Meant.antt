@@ -14,14 +14,14 @@ use Rattle.rules.specs.Types.{Typ, Env, with_name}
 use Rattle.rules.specs.Refusal.{Refusal, Res, ok, bad, known}
 use Rattle.rules.specs.Analyse as analysis
 use Rattle.rules.specs.Analyse.{field_name}
-use Rattle.rules.specs.Meant.{Access, behind, ofExpr, ofExprs, ofInits, ofStmt, ofStmts, ofFunction, ofFunctions, accesses, base_at}
+use Rattle.rules.specs.Meant.{Access, behind, ofExpr, ofExprs, ofInits, ofStmt, ofStmts, of_function, of_functions, accesses, base_at}
 use Rattle.rules.specs.Layout.{layouts, with_position, positions, first_of, declared, among, choices, offset}
 use Rattle.rules.specs.Ambiguous.{differs, apart, is_ambiguous_lem}
 use Rattle.records.specs.Names.{name_eq, never}
 use Rattle.bounds.specs.Held.{Opt, Each}
 use Rattle.bounds.specs.Sparse.{each_append}
 use Rattle.before.specs.Old.{unanalysed, offset_before, ambiguous_before}
-use Rattle.before.specs.Fields.{some_none, agreed, of-declared, first_none}
+use Rattle.before.specs.Fields.{some_none, agreed, of_declared, first_none}
 
 -- Of what comes behind an answer, if it does for every answer.
 each_behind : {A : Type 0} (P : Access → Type 0) (m : Res A) (f : A → List Access) → ((a : A) → m ≡ ok a → Each P (f a)) → Each P (behind m f)
@@ -103,16 +103,16 @@ module _ (C : Contract) where
       stmts-have Stmts.none Γ = tt
       stmts-have (Stmts.more s ss) Γ = each_append Has (ofStmt C ret s Γ) _ (stmt-has s Γ) (each_behind Has (analysis.stmt C ret s Γ) _ (λ Δ m. stmts-have ss Δ))
 
-  functions-have : (fs : List Function) → Each Has (ofFunctions C fs)
-  unfolding ofFunction ofFunctions
-  functions-have [] = tt
-  functions-have (f ∷ fs) = each_append Has (ofStmts C _ f.body _) _ (stmts-have _ f.body _) (functions-have fs)
+  functions_have : (fs : List Function) → Each Has (of_functions C fs)
+  unfolding of_function of_functions
+  functions_have [] = tt
+  functions_have (f ∷ fs) = each_append Has (ofStmts C _ f.body _) _ (stmts-have _ f.body _) (functions_have fs)
 
   -- So of the one that is found by its place and field.
-  found-has : (p : ℕ) (x : Name) (l : List Access) → Each Has l → (d : Struct) → declared C (base_at p x l) ≡ some d → first_index field_name 0 x d.fields ≡ none → ⊥
+  found_has : (p : ℕ) (x : Name) (l : List Access) → Each Has l → (d : Struct) → declared C (base_at p x l) ≡ some d → first_index field_name 0 x d.fields ≡ none → ⊥
   unfolding base_at declared pick Has
-  found-has p x [] h d e n = some_none d (sym e)
-  found-has p x (a ∷ l) h d e n = by (eqb a.place p) (eq_name a.field x) refl e (λ g. found-has p x l h.1 d g n)
+  found_has p x [] h d e n = some_none d (sym e)
+  found_has p x (a ∷ l) h d e n = by (eqb a.place p) (eq_name a.field x) refl e (λ g. found_has p x l h.1 d g n)
     where
       by : (b c : Bool) → eq_name a.field x ≡ c → declared C (pick (b and c) a.base (base_at p x l)) ≡ some d → (declared C (base_at p x l) ≡ some d → ⊥) → ⊥
       by true true q g r = h.0 d g (subst (λ (y : Name). first_index field_name 0 y d.fields ≡ none) (sym (name_eq a.field x q)) n)
@@ -120,9 +120,9 @@ module _ (C : Contract) where
       by false c q g r = r g
 
   -- Of the struct that is meant.
-  pub meant-has : (p : ℕ) (x : Name) (d : Struct) → declared C (base_at p x (accesses C)) ≡ some d → first_index field_name 0 x d.fields ≡ none → ⊥
+  pub meant_has : (p : ℕ) (x : Name) (d : Struct) → declared C (base_at p x (accesses C)) ≡ some d → first_index field_name 0 x d.fields ≡ none → ⊥
   unfolding accesses
-  meant-has p x = found-has p x (accesses C) (functions-have C.functions)
+  meant_has p x = found_has p x (accesses C) (functions_have C.functions)
 
   module _ (p : ℕ) (x : Name) (clear : is_ambiguous_lem (unanalysed C) p x ≡ false) where
     -- All structs.
@@ -131,8 +131,8 @@ module _ (C : Contract) where
 
     -- The field of a declared struct stands where it stands in the first.
     stands : (t : Typ) (d : Struct) → declared C t ≡ some d → Opt (λ k. first_of all ≡ k) (first_index field_name 0 x d.fields)
-    unfolding declared all analysis.structNamed
-    stands (Typ.struct s) d e = of-declared _ x s C.structs (agreed _ (sym (ambiguous_before C p x) ∙ clear)) d e
+    unfolding declared all analysis.struct_named
+    stands (Typ.struct s) d e = of_declared _ x s C.structs (agreed _ (sym (ambiguous_before C p x) ∙ clear)) d e
     stands Typ.u64 d e = some_none d (sym e)
     stands Typ.bool d e = some_none d (sym e)
     stands Typ.field d e = some_none d (sym e)
@@ -153,7 +153,7 @@ module _ (C : Contract) where
 
     both : (first_of (choices C p x) ≡ first_of all) × (apart (choices C p x) ≡ false)
     unfolding choices
-    both = settled (declared C (base_at p x (accesses C))) (stands (base_at p x (accesses C))) (meant-has p x)
+    both = settled (declared C (base_at p x (accesses C))) (stands (base_at p x (accesses C))) (meant_has p x)
 
     -- The offset is the old one,
     pub offset-same : offset C p x ≡ offset (unanalysed C) p x

@@ -8,9 +8,9 @@ use Rattle.rules.specs.Tables.{last}
 use Rattle.rules.specs.Tree.{Function, Contract}
 use Rattle.rules.specs.Refusal.{Res, ok, ◌>>=◌}
 use Rattle.rules.specs.Builtins.{main}
-use Rattle.rules.specs.Meant.{ofFunctions, accesses, base_at}
+use Rattle.rules.specs.Meant.{of_functions, accesses, base_at}
 use Rattle.rules.specs.Layout.{layouts, positions, first_of, declared, among, choices, offset}
-use Rattle.rules.specs.Ambiguous.{apart, is_ambiguous_lem, inFunctions}
+use Rattle.rules.specs.Ambiguous.{apart, is_ambiguous_lem, in_functions}
 use Rattle.rules.specs.Emit.{Rules}
 use Rattle.rules.specs.Link.{Program, functions, link, opening, with_main}
 use Rattle.rules.specs.Build.{clear, analysed}
@@ -21,17 +21,17 @@ unanalysed C = record { storage = C.storage; structs = C.structs; functions = []
 
 -- 01: the offset as it was.
 pub offset_before : (C : Contract) (p : ℕ) (x : Name) → offset (unanalysed C) p x ≡ first_of (positions x (layouts C.structs)) * 8
-unfolding offset choices unanalysed accesses ofFunctions base_at declared among
+unfolding offset choices unanalysed accesses of_functions base_at declared among
 offset_before C p x = refl
 
 -- 01: For 30 as it was.
 pub ambiguous_before : (C : Contract) (p : ℕ) (x : Name) → is_ambiguous_lem (unanalysed C) p x ≡ apart (positions x (layouts C.structs))
-unfolding is_ambiguous_lem choices unanalysed accesses ofFunctions base_at declared among
+unfolding is_ambiguous_lem choices unanalysed accesses of_functions base_at declared among
 ambiguous_before C p x = refl
 
 -- 01: row 30, place, as it was.
 unfoldable pub first_before : Contract → Option ℕ
-first_before C = inFunctions (unanalysed C) C.functions
+first_before C = in_functions (unanalysed C) C.functions
 
 -- 000: generate, as it was.
 unfoldable pub generate_before : Rules → Contract → Res Program

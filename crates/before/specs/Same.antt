@@ -10,9 +10,9 @@ use Rattle.rules.specs.Tables.{or_else}
 use Rattle.rules.specs.Tree.{Expr, Exprs, Inits, Stmt, Stmts, Field, Function, Contract}
 use Rattle.rules.specs.Refusal.{Res, ◌>>=◌}
 use Rattle.rules.specs.Builtins.{Builtin, builtin}
-use Rattle.rules.specs.Ambiguous.{inExpr, inExprs, inInits, inStmt, inStmts, inFunctions}
+use Rattle.rules.specs.Ambiguous.{inExpr, inExprs, inInits, inStmt, inStmts, in_functions}
 use Rattle.rules.specs.Emit.{Rules, Scope, Values}
-use Rattle.rules.specs.Generate.{alloc-reg, slot, result, apply, number, expr, exprs, inits, logs, stmt, stmts, alloc-regs, function}
+use Rattle.rules.specs.Generate.{alloc_reg_lem, slot, result, apply, number, expr, exprs, inits, logs, stmt, stmts, alloc_regs, function}
 use Rattle.rules.specs.Link.{functions}
 use Rattle.before.specs.Old.{unanalysed}
 use Rattle.before.specs.Fields.{some_none}
@@ -87,15 +87,15 @@ module _ (C : Contract) where
     stmts-clear (Stmts.more s ss) h = let g = neither _ _ h in both_none (stmt-clear s g.0) (stmts-clear ss g.1)
 
   -- No 30 in any function.
-  pub functions-clear : (fs : List Function) → inFunctions (unanalysed C) fs ≡ none → inFunctions C fs ≡ none
-  unfolding inFunctions
-  functions-clear [] h = refl
-  functions-clear (f ∷ fs) h = let g = neither _ _ h in both_none (stmts-clear f.body g.0) (functions-clear fs g.1)
+  pub functions_clear : (fs : List Function) → in_functions (unanalysed C) fs ≡ none → in_functions C fs ≡ none
+  unfolding in_functions
+  functions_clear [] h = refl
+  functions_clear (f ∷ fs) h = let g = neither _ _ h in both_none (stmts-clear f.body g.0) (functions_clear fs g.1)
 
   module _ (R : Rules) where
     -- Nothing but an offset asks for the contract's functions.
     apply-same : (p : ℕ) (f : Name) (n : ℕ) (m : Res Values) (b : Option Builtin) → apply R C p f n m b ≡ apply R (unanalysed C) p f n m b
-    unfolding apply result alloc-reg
+    unfolding apply result alloc_reg_lem
     apply-same p f n m (some Builtin.poseidon) = refl
     apply-same p f n m (some Builtin.sender) = refl
     apply-same p f n m (some Builtin.nonce) = refl
@@ -104,7 +104,7 @@ module _ (C : Contract) where
     apply-same p f n m none = refl
 
     mutual
-      unfolding expr exprs inits inExpr inExprs inInits alloc-reg slot result number unanalysed
+      unfolding expr exprs inits inExpr inExprs inInits alloc_reg_lem slot result number unanalysed
 
       expr-same : (e : Expr) → inExpr (unanalysed C) e ≡ none → (s : Scope) (n : ℕ) → expr R C e s n ≡ expr R (unanalysed C) e s n
       expr-same (Expr.no-expr p) h s n = refl
@@ -141,7 +141,7 @@ module _ (C : Contract) where
         in_turn (expr-same e g.0 s n) (λ v. in_turn (logs-same p es g.1 s v.next) (λ l. refl))
 
     mutual
-      unfolding stmt stmts inStmt inStmts alloc-reg slot unanalysed
+      unfolding stmt stmts inStmt inStmts alloc_reg_lem slot unanalysed
 
       stmt-same : (x : Stmt) → inStmt (unanalysed C) x ≡ none → (s : Scope) (n : ℕ) → stmt R C x s n ≡ stmt R (unanalysed C) x s n
       stmt-same (Stmt.no-stmt p) h s n = refl
@@ -173,18 +173,18 @@ module _ (C : Contract) where
           let g = neither _ _ h in
           in_turn (stmt-same x g.0 s n) (λ d. in_turn (stmts-same xs g.1 d.scope d.next) (λ e. refl))
 
-    allocs-same : (p : ℕ) (xs : List Field) (n : ℕ) → alloc-regs R C p xs n ≡ alloc-regs R (unanalysed C) p xs n
-    unfolding alloc-regs alloc-reg
+    allocs-same : (p : ℕ) (xs : List Field) (n : ℕ) → alloc_regs R C p xs n ≡ alloc_regs R (unanalysed C) p xs n
+    unfolding alloc_regs alloc_reg_lem
     allocs-same p [] n = refl
     allocs-same p (x ∷ xs) n = in_turn refl (λ r. in_turn (allocs-same p xs (suc r)) (λ rs. refl))
 
     function-same : (f : Function) → inStmts (unanalysed C) f.body ≡ none → function R C f ≡ function R (unanalysed C) f
-    unfolding function alloc-reg
+    unfolding function alloc_reg_lem
     function-same f h = in_turn refl (λ a. in_turn (allocs-same _ f.params (suc a)) (λ rs. in_turn (stmts-same f.body h _ _) (λ d. refl)))
 
     -- The words of every function, and the table.
-    pub functions-same : (fs : List Function) → inFunctions (unanalysed C) fs ≡ none → (i : ℕ) → functions R C i fs ≡ functions R (unanalysed C) i fs
-    unfolding functions inFunctions
+    pub functions-same : (fs : List Function) → in_functions (unanalysed C) fs ≡ none → (i : ℕ) → functions R C i fs ≡ functions R (unanalysed C) i fs
+    unfolding functions in_functions
     functions-same [] h i = refl
     functions-same (f ∷ fs) h i =
         let g = neither _ _ h in

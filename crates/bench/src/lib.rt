@@ -1,4 +1,6 @@
 // The check and the build as C functions, for `oracle/` to compare and to time: the three numbers in one, as `host` packs them.
+#![tactic(auto)]
+
 ghost use Rattle.std.specs.Prelude.{◌≡◌};
 ghost use Rattle.rules.specs.Check.{check_of};
 ghost use Rattle.rules.specs.Build.{rules, packed, build_of, code_of, table_of};

@@ -11,18 +11,18 @@ use Rattle.rules.specs.Grammar.{classes, class_of, records, parts_of, part_of, d
 use Rattle.rules.specs.Check.{counts, vars_in_lem, start_of, record_of, check_of}
 use Rattle.rules.specs.Tree.{Field, Struct, Function, Contract}
 use Rattle.rules.specs.Types.{Typ, Env}
-use Rattle.rules.specs.Meant.{ofStmts, ofFunction, ofFunctions, accesses}
+use Rattle.rules.specs.Meant.{ofStmts, of_function, of_functions, accesses}
 use Rattle.rules.specs.Tables.{mapped, nth}
 use Rattle.rules.specs.Read.{second, third, fourth, fifth, places_from, places_in, field_at, fields_at, struct_at, function_at, contract_at}
 use Rattle.rules.specs.Joined.{whole}
 use Rattle.bounds.specs.Held.{Opt, Each, each_of_map, each_to_map}
 use Rattle.bounds.specs.Sizes.{nodes_function, nodes_functions, vars-stmts}
 use Rattle.bounds.specs.Sound.{Run, no_more, one_more, none_left, stands}
-use Rattle.bounds.specs.Whole.{Reads, read_all, read_one, Complete, Short, ShortTypes, Whole-function}
+use Rattle.bounds.specs.Whole.{Reads, read_all, read_one, Complete, Short, ShortTypes, WholeFunction}
 use Rattle.bounds.specs.Runs.{part_due, no_part, leaf, short, name_part, flag_part, of_kind, places_end, places_more, run_reads}
 use Rattle.bounds.specs.Sparse.{Sparse, sparse_none, sparse_in, sparse_then}
 use Rattle.bounds.specs.Stmts as stmts
-use Rattle.bounds.specs.Stmts.{body-part}
+use Rattle.bounds.specs.Stmts.{body_part}
 
 -- No count passes 512.
 run_bounded : (l : ℕ) (img : List ℕ) (end d k i p v m : ℕ) → ((at d i v q m : ℕ) → v ≤ 512 → record_of l img at end d i v ≡ Sound q m → m ≤ 512)
@@ -147,7 +147,7 @@ result (suc l) img at end i v q m h e =
 -- A function that stands from p to e.
 record GoodFunction (img : List ℕ) (p e : ℕ) (f : Function) : Type 0 where
   small : p + 6 * nodes_function f ≤ e
-  whole : Whole-function img f
+  whole : WholeFunction img f
   names : length f.params + vars-stmts f.body ≤ 512
   marks : (C : Contract) (ret : Typ) (Γ : Env) → Sparse img p e (ofStmts C ret f.body Γ)
 
@@ -172,7 +172,7 @@ function (suc l) g img at end i v q m h u e =
     let c = part_due l img (after img at) due.Function 19 2 (third img at) b.counted m refl b.next in
     let (cr, cx, cy) = result l img (third img at) (after img at) 2 b.counted _ c.counted o c.sound in
     let (d, dx, dy) = flag_part l img (after img at) due.Function 19 3 (fourth img at) c.counted m o refl c.next in
-    let (s, sc, sg) = body-part l img (stmts.level img l) 64 (omega arith) (after img at) due.Function 19 4 (fifth img at) d.counted m o refl d.next in
+    let (s, sc, sg) = body_part l img (stmts.level img l) 64 (omega arith) (after img at) due.Function 19 4 (fifth img at) d.counted m o refl d.next in
     let z = no_part l img (after img at) due.Function 19 5 (after img (fifth img at)) s.counted m refl s.next in
     let n : length (map (field_at img) (places_in 512 img (second img at))) ≡ length (places_in 512 img (second img at)) = length-map (places_in 512 img (second img at)) (field_at img) in
     let t : m ≤ 512 = bounded (suc l) img at end due.Function i v q m h u e in
@@ -237,14 +237,14 @@ struct_types (suc l) img at end i v q m h e =
 -- The functions of a List.
 record GoodFunctions (img : List ℕ) (p e : ℕ) (fs : List Function) : Type 0 where
   small : p + 6 * nodes_functions fs ≤ e
-  whole : Each (λ (f : Function). Whole-function img f) fs
+  whole : Each (λ (f : Function). WholeFunction img f) fs
   names : Each (λ (f : Function). length f.params + vars-stmts f.body ≤ 512) fs
-  marks : (C : Contract) → Sparse img p e (ofFunctions C fs)
+  marks : (C : Contract) → Sparse img p e (of_functions C fs)
 
 -- From the i-th on.
 functions_run : (fuel l : ℕ) → l ≤ 64 → (img : List ℕ) (end i p v m : ℕ) → end ≤ length img → v ≤ 512 → 256 ≤ fuel + i → Run l img end due.Functions 2 i p v m
     → GoodFunctions img p end (map (function_at img) (places_from fuel img p end))
-unfolding pick class_of classes due_at nodes_functions ofFunction ofFunctions
+unfolding pick class_of classes due_at nodes_functions of_function of_functions
 functions_run fuel l g img end i p v m h u b (no_more e n c) =
     subst (λ ps. GoodFunctions img p end (map (function_at img) ps)) (sym (places_end fuel img p end e)) (record { small = omega arith; whole = tt; names = tt; marks = λ C. sparse_none img p end })
 functions_run zero zero g img end i p v m h u b (one_more n s z o e r) = none_left img p end _ i v (after img p) n e
@@ -326,7 +326,7 @@ uncut img q m e =
     record { bytes = w.0; storage = c.storage; structs = c.structs; fields = c.fields; types = c.types; functions = c.functions }
 
 -- No function of it has a record that fell back, or a List that was cut.
-pub all_whole : (img : List ℕ) (q m : ℕ) → check_of img ≡ Sound q m → Each (λ (f : Function). Whole-function img f) (contract_at img).functions
+pub all_whole : (img : List ℕ) (q m : ℕ) → check_of img ≡ Sound q m → Each (λ (f : Function). WholeFunction img f) (contract_at img).functions
 all_whole img q m e = (contract img q m (whole img q m e).1).good.whole
 
 -- No function of it declares more than 512 names: its parameters, Lets and Fors.
@@ -340,9 +340,9 @@ unfolding contract_at
 names_at img q m e = each_of_map (λ (f : Function). length f.params + vars-stmts f.body ≤ 512) (function_at img) (places_in 256 img (fourth img 0)) (names_few img q m e)
 
 -- No fall-back, of the place of each function.
-pub whole_at : (img : List ℕ) (q m : ℕ) → check_of img ≡ Sound q m → Each (λ p. Whole-function img (function_at img p)) (places_in 256 img (fourth img 0))
+pub whole_at : (img : List ℕ) (q m : ℕ) → check_of img ≡ Sound q m → Each (λ p. WholeFunction img (function_at img p)) (places_in 256 img (fourth img 0))
 unfolding contract_at
-whole_at img q m e = each_of_map (λ (f : Function). Whole-function img f) (function_at img) (places_in 256 img (fourth img 0)) (all_whole img q m e)
+whole_at img q m e = each_of_map (λ (f : Function). WholeFunction img f) (function_at img) (places_in 256 img (fourth img 0)) (all_whole img q m e)
 
 -- Its functions have a record for six bytes at most.
 pub nodes_few : (img : List ℕ) (q m : ℕ) → check_of img ≡ Sound q m → 6 * nodes_functions (contract_at img).functions ≤ 65536

@@ -37,7 +37,7 @@ module _ (img : List ℕ) where
     pub marks : (C : Contract) (Γ : Env) → Sparse img p e (ofExprs C xs Γ)
 
   -- Of Inits.
-  pub record Good-inits (p e v m : ℕ) (is : Inits) : Type 0 where
+  pub record GoodInits (p e v m : ℕ) (is : Inits) : Type 0 where
     pub small : p + 6 * nodes-inits is ≤ e
     pub whole : Whole-inits img is
     pub count : v ≤ m
@@ -54,7 +54,7 @@ module _ (img : List ℕ) where
     pub init : (D : ℕ) → l ≤ D → (at end i v q m : ℕ) → end ≤ length img → record_of l img at end due.Init i v ≡ Sound q m
         → Named img at (name_in img at) × Good at (after img at) v m (expr_at D img (second img at))
     pub inits : (D : ℕ) → l ≤ D → (at end i v q m : ℕ) → end ≤ length img → record_of l img at end due.Inits i v ≡ Sound q m
-        → Complete 64 img at × Good-inits (at + 6) (after img at) v m (inits_from 64 (expr_at D img) img (inside img at) (after img at))
+        → Complete 64 img at × GoodInits (at + 6) (after img at) v m (inits_from 64 (expr_at D img) img (inside img at) (after img at))
 
 -- At the end of a List there is no expression more, before it there is one.
 exprs_end : (k : ℕ) (f : ℕ → Expr) (img : List ℕ) (p e : ℕ) → p ≡ e → exprs_from k f img p e ≡ Exprs.none
@@ -99,16 +99,16 @@ exprs_run (suc fuel) l img D g L end d i p v m h lo hi b (one_more n s z o e r) 
 
 -- The Inits of a List.
 inits_run : (fuel l : ℕ) (img : List ℕ) (D : ℕ) → l ≤ D → Level img l → (end i p v m : ℕ) → end ≤ length img → 64 ≤ fuel + i
-    → Run l img end due.Inits 2 i p v m → Good-inits img p end v m (inits_from fuel (expr_at D img) img p end)
+    → Run l img end due.Inits 2 i p v m → GoodInits img p end v m (inits_from fuel (expr_at D img) img p end)
 unfolding due_at pick class_of classes nodes-inits Whole-inits ofInits
 inits_run fuel l img D g L end i p v m h b (no_more e n c) =
-    subst (Good-inits img p end v m) (sym (inits_end fuel (expr_at D img) img p end e)) (record { small = omega arith; whole = tt; count = omega arith; marks = λ C Γ. sparse_none img p end })
+    subst (GoodInits img p end v m) (sym (inits_end fuel (expr_at D img) img p end e)) (record { small = omega arith; whole = tt; count = omega arith; marks = λ C Γ. sparse_none img p end })
 inits_run zero zero img D g L end i p v m h b (one_more n s z o e r) = none_left img p end _ i v (after img p) n e
 inits_run zero (suc l) img D g L end i p v m h b (one_more n s z o e r) = absurd (let w = stands l img p end _ i v (after img p) n h e in omega (arith, w.room))
 inits_run (suc fuel) l img D g L end i p v m h b (one_more n s z o e r) =
     let (own, a) = L.init D g p end i v (after img p) n h e in
     let t = inits_run fuel l img D g L end (i + 1) (after img p) n m h (omega arith) r in
-    subst (Good-inits img p end v m) (sym (inits_more fuel (expr_at D img) img p end s)) (record {
+    subst (GoodInits img p end v m) (sym (inits_more fuel (expr_at D img) img p end s)) (record {
       small = omega (arith, a.small, t.small);
       whole = (own, a.whole, t.whole);
       count = omega (arith, a.count, t.count);
@@ -143,12 +143,12 @@ eight k a b = subst Eight (omega arith) (eight_by (k - 64) (omega arith))
 
 module _ (l : ℕ) (img : List ℕ) (L : Level img l) where
   -- A List of expressions.
-  exprs-step : (D : ℕ) → suc l ≤ D → (B at end d i v q m : ℕ) → end ≤ length img → (class_of d).low ≡ 2 → (class_of d).high ≡ 2
+  exprs_step : (D : ℕ) → suc l ≤ D → (B at end d i v q m : ℕ) → end ≤ length img → (class_of d).low ≡ 2 → (class_of d).high ≡ 2
       → (class_of (class_of d).item).low ≡ 64 → (class_of (class_of d).item).high ≡ 71 → (class_of (class_of d).item).most ≤ B
       → record_of (suc l) img at end d i v ≡ Sound q m
       → Complete B img at × Goods img (at + 6) (after img at) v m (exprs_from B (expr_at D img) img (inside img at) (after img at))
   unfolding start_of pick
-  exprs-step D g B at end d i v q m h lo hi ilo ihi b e =
+  exprs_step D g B at end d i v q m h lo hi ilo ihi b e =
       let w = stands l img at end d i v q m h e in
       let k : kind_at img at ≡ 2 = omega (arith, w.low, w.high) in
       let r = of_kind l img at end d i v m 2 k w in
@@ -159,10 +159,10 @@ module _ (l : ℕ) (img : List ℕ) (L : Level img l) where
       )
 
   -- A List of Inits.
-  inits-step : (D : ℕ) → suc l ≤ D → (at end i v q m : ℕ) → end ≤ length img → record_of (suc l) img at end due.Inits i v ≡ Sound q m
-      → Complete 64 img at × Good-inits img (at + 6) (after img at) v m (inits_from 64 (expr_at D img) img (inside img at) (after img at))
+  inits_step : (D : ℕ) → suc l ≤ D → (at end i v q m : ℕ) → end ≤ length img → record_of (suc l) img at end due.Inits i v ≡ Sound q m
+      → Complete 64 img at × GoodInits img (at + 6) (after img at) v m (inits_from 64 (expr_at D img) img (inside img at) (after img at))
   unfolding start_of pick class_of classes
-  inits-step D g at end i v q m h e =
+  inits_step D g at end i v q m h e =
       let w = stands l img at end due.Inits i v q m h e in
       let k : kind_at img at ≡ 2 = omega (arith, w.low, w.high) in
       let r = of_kind l img at end due.Inits i v m 2 k w in
@@ -173,10 +173,10 @@ module _ (l : ℕ) (img : List ℕ) (L : Level img l) where
       )
 
   -- An Init: a Name and an expression.
-  init-step : (D : ℕ) → suc l ≤ D → (at end i v q m : ℕ) → end ≤ length img → record_of (suc l) img at end due.Init i v ≡ Sound q m
+  init_step : (D : ℕ) → suc l ≤ D → (at end i v q m : ℕ) → end ≤ length img → record_of (suc l) img at end due.Init i v ≡ Sound q m
       → Named img at (name_in img at) × Good img at (after img at) v m (expr_at D img (second img at))
   unfolding start_of pick class_of classes due_at part_of parts_of records
-  init-step D g at end i v q m h e =
+  init_step D g at end i v q m h e =
       let w = stands l img at end due.Init i v q m h e in
       let k : kind_at img at ≡ 20 = omega (arith, w.low, w.high) in
       let r = of_kind l img at end due.Init i v m 20 k w in
@@ -190,10 +190,10 @@ module _ (l : ℕ) (img : List ℕ) (L : Level img l) where
       )
 
   -- An expression as a part, and what stands behind it.
-  pub expr-part : (D : ℕ) → l ≤ D → (end d k j p n m : ℕ) → end ≤ length img → due_at d k j ≡ due.Expression → Run l img end d k j p n m
+  pub expr_part : (D : ℕ) → l ≤ D → (end d k j p n m : ℕ) → end ≤ length img → due_at d k j ≡ due.Expression → Run l img end d k j p n m
       → (a : Part l img end d k j p n m) × Good img p (after img p) n a.counted (expr_at D img p)
   unfolding pick class_of classes
-  expr-part D g end d k j p n m h e r =
+  expr_part D g end d k j p n m h e r =
       let a = part_due l img end d k j p n m (ap (λ z. (class_of z).must) e) r in
       (a, L.expr D g p end due.Expression j n (after img p) a.counted h refl refl (subst (λ z. record_of l img p end z j n ≡ Sound (after img p) a.counted) e a.sound))
 
@@ -221,13 +221,13 @@ module _ (l : ℕ) (img : List ℕ) (L : Level img l) where
         let f : after img at ≤ length img = omega (arith, w.within) in
         let r = of_kind l img at end d i v m 67 e w in
         let (a, x, y, short) = name_part l img (after img at) d 67 0 (inside img at) (vars_in_lem d 67 v) m f refl r in
-        let (b, t) = expr-part D g (after img at) d 67 1 (second img at) a.counted m f refl a.next in
+        let (b, t) = expr_part D g (after img at) d 67 1 (second img at) a.counted m f refl a.next in
         let z = no_part l img (after img at) d 67 2 (third img at) b.counted m refl b.next in
         record { small = omega (arith, w.payload, x, t.small, b.within); whole = (record { here = omega (arith, w.own, f); short = short; own = refl }, t.whole); count = omega (arith, y, t.count, z.1, vars_grow d 67 v refl); marks = λ C Γ. sparse_in (omega (arith, w.payload, x)) b.within (t.marks C Γ) }
     by_kind k e e_access =
         let f : after img at ≤ length img = omega (arith, w.within) in
         let r = of_kind l img at end d i v m 68 e w in
-        let (b, t) = expr-part D g (after img at) d 68 0 (inside img at) (vars_in_lem d 68 v) m f refl r in
+        let (b, t) = expr_part D g (after img at) d 68 0 (inside img at) (vars_in_lem d 68 v) m f refl r in
         let (a, x, y, short) = name_part l img (after img at) d 68 1 (second img at) b.counted m f refl b.next in
         let z = no_part l img (after img at) d 68 2 (third img at) a.counted m refl a.next in
         record {
@@ -248,9 +248,9 @@ module _ (l : ℕ) (img : List ℕ) (L : Level img l) where
     by_kind k e e_binary =
         let f : after img at ≤ length img = omega (arith, w.within) in
         let r = of_kind l img at end d i v m 70 e w in
-        let (a, t) = expr-part D g (after img at) d 70 0 (inside img at) (vars_in_lem d 70 v) m f refl r in
+        let (a, t) = expr_part D g (after img at) d 70 0 (inside img at) (vars_in_lem d 70 v) m f refl r in
         let (b, x, y) = op_part l img (after img at) d 70 1 (second img at) a.counted m f refl a.next in
-        let (c, u) = expr-part D g (after img at) d 70 2 (third img at) b.counted m f refl b.next in
+        let (c, u) = expr_part D g (after img at) d 70 2 (third img at) b.counted m f refl b.next in
         let z = no_part l img (after img at) d 70 3 (after img (third img at)) c.counted m refl c.next in
         record {
           small = omega (arith, w.payload, t.small, x, u.small, c.within);
@@ -268,11 +268,11 @@ module _ (l : ℕ) (img : List ℕ) (L : Level img l) where
         let z = no_part l img (after img at) d 71 2 (third img at) b.counted m refl b.next in
         record { small = omega (arith, w.payload, x, t.small, b.within); whole = (record { here = omega (arith, w.own, f); short = short; own = refl }, c, t.whole); count = omega (arith, y, t.count, z.1, vars_grow d 71 v refl); marks = λ C Γ. sparse_in (omega (arith, w.payload, x)) b.within (t.marks C Γ) }
 
-  expr-step : (D : ℕ) → suc l ≤ D → (at end d i v q m : ℕ) → end ≤ length img → (class_of d).low ≡ 64 → (class_of d).high ≡ 71
+  expr_step : (D : ℕ) → suc l ≤ D → (at end d i v q m : ℕ) → end ≤ length img → (class_of d).low ≡ 64 → (class_of d).high ≡ 71
       → record_of (suc l) img at end d i v ≡ Sound q m → Good img at (after img at) v m (expr_at D img at)
   unfolding expr_at
-  expr-step zero g at end d i v q m h lo hi e = absurd (omega arith)
-  expr-step (suc D) g at end d i v q m h lo hi e =
+  expr_step zero g at end d i v q m h lo hi e = absurd (omega arith)
+  expr_step (suc D) g at end d i v q m h lo hi e =
       let w = stands l img at end d i v q m h e in
       by_kind D (omega arith) at end d i v m h w (kind_at img at) refl (eight (kind_at img at) (omega (arith, w.low)) (omega (arith, w.high)))
 
@@ -284,4 +284,4 @@ level img zero = record {
   init = λ D g at end i v q m h e. none_left img at end due.Init i v q m e;
   inits = λ D g at end i v q m h e. none_left img at end due.Inits i v q m e;
 }
-level img (suc l) = let L = level img l in record { expr = expr-step l img L; exprs = exprs-step l img L; init = init-step l img L; inits = inits-step l img L }
+level img (suc l) = let L = level img l in record { expr = expr_step l img L; exprs = exprs_step l img L; init = init_step l img L; inits = inits_step l img L }

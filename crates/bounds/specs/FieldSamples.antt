@@ -6,7 +6,7 @@ use Rattle.std.proofs.lemmas.Bool.{eqb-false}
 use Rattle.isa.specs.declared.Opcode.{Opcode}
 use Rattle.isa.specs.Word.{number_of, opcodes}
 use Rattle.isa.specs.Facts.{row_of}
-use Rattle.isa.specs.Every.{every, every-at}
+use Rattle.isa.specs.Every.{every, every_at}
 use Rattle.isa.specs.Laws.{each_opcode}
 use Rattle.rules.specs.Bytes.{Name}
 use Rattle.rules.specs.Refusal.{Res, ok, bad}
@@ -95,7 +95,7 @@ unfolding all_shown
 shown_at ws h k o = by k
   where
     of : (j : ℕ) → j < 4 → T (shown ws (get_or (rd ∷ rs1 ∷ rs2 ∷ imm ∷ []) j rd) o)
-    of = every-at (λ (j : ℕ) (k : Operand). shown ws k o) (rd ∷ rs1 ∷ rs2 ∷ imm ∷ []) (each_opcode (λ (p : Opcode). every (λ (j : ℕ) (k : Operand). shown ws k p) 0 (rd ∷ rs1 ∷ rs2 ∷ imm ∷ [])) h o) rd
+    of = every_at (λ (j : ℕ) (k : Operand). shown ws k o) (rd ∷ rs1 ∷ rs2 ∷ imm ∷ []) (each_opcode (λ (p : Opcode). every (λ (j : ℕ) (k : Operand). shown ws k p) 0 (rd ∷ rs1 ∷ rs2 ∷ imm ∷ [])) h o) rd
 
     by : (k : Operand) → T (shown ws k o)
     by rd = of 0 (omega arith)

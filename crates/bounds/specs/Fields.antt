@@ -70,9 +70,9 @@ module _ (t : List ℕ) (ruled : Ruled t) where
   abbrev pub Unset : ℕ → Type 0
   Unset n = (k : Operand) → may k (fact_in (get_or t (n % 2 ^ 8) 0)) ≡ false → bits_in k n ≡ 0
 
-  number-unset : (w : Word) → Encodable w → Within w → Unset (number_of w)
+  number_unset : (w : Word) → Encodable w → Within w → Unset (number_of w)
   unfolding instruction_of
-  number-unset w h g k e = by k (sym (ap (may k) said) ∙ e)
+  number_unset w h g k e = by k (sym (ap (may k) said) ∙ e)
     where
       d : Decodes (number_of w) (instruction_of w) 0
       d = decodes (number_of w) (instruction_of w) 0 (decode_encode (instruction_of w) 0 (number_of w) (bits_below w.imm h.imm) (encoded w h))
@@ -87,7 +87,7 @@ module _ (t : List ℕ) (ruled : Ruled t) where
       by imm f = sym d.imm ∙ bits_zero w.imm h.imm (only _ (size w.imm) g.1.1.1 f)
 
   -- So the numbers of a list.
-  pub all-unset : (l : List Word) → ((i : ℕ) (w : Word) → At l i w → Encodable w × Within w) → (i n : ℕ) → At (map number_of l) i n → Unset n
-  all-unset [] h i n a = absurd a
-  all-unset (w ∷ l) h zero n a = subst Unset a (number-unset w (h 0 w refl).0 (h 0 w refl).1)
-  all-unset (w ∷ l) h (suc i) n a = all-unset l (λ j v b. h (suc j) v b) i n a
+  pub all_unset : (l : List Word) → ((i : ℕ) (w : Word) → At l i w → Encodable w × Within w) → (i n : ℕ) → At (map number_of l) i n → Unset n
+  all_unset [] h i n a = absurd a
+  all_unset (w ∷ l) h zero n a = subst Unset a (number_unset w (h 0 w refl).0 (h 0 w refl).1)
+  all_unset (w ∷ l) h (suc i) n a = all_unset l (λ j v b. h (suc j) v b) i n a

@@ -11,7 +11,7 @@ use Rattle.rules.specs.Analyse as analysis
 use Rattle.rules.specs.Emit.{Rules, Scope, Done, bind, with_name}
 use Rattle.rules.specs.Emit as emit
 use Rattle.rules.specs.Generate as generation
-use Rattle.rules.specs.Generate.{alloc-reg, slot, logs}
+use Rattle.rules.specs.Generate.{alloc_reg_lem, slot, logs}
 use Rattle.bounds.specs.Answers.{All, all_ok, all_bind, all_next, all_pick, all_unless, all_map}
 use Rattle.bounds.specs.Sizes.{vars, vars-stmts}
 
@@ -70,7 +70,7 @@ module _ (R : Rules) (C : Contract) where
     stmt-scope (Stmt.let-in p x e) s n =
         all_next (generation.expr R C e s n) _ (λ v.
         all_pick (leb n v.reg) _ _ (all_ok _ (omega arith))
-        (all_pick R.copies _ _ (all_next (alloc-reg R C p v.next) _ (λ r. all_ok _ (omega arith))) (all_ok _ (omega arith))))
+        (all_pick R.copies _ _ (all_next (alloc_reg_lem R C p v.next) _ (λ r. all_ok _ (omega arith))) (all_ok _ (omega arith))))
     stmt-scope (Stmt.constrain p e) s n = all_next (generation.expr R C e s n) _ (λ v. all_ok _ (omega arith))
     stmt-scope (Stmt.assign p x e) s n = all_next (generation.expr R C e s n) _ (λ v. all_next (known (Refusal.unassigned p x) (emit.find x s)) _ (λ r. all_ok _ (omega arith)))
     stmt-scope (Stmt.storage-write p x e) s n = all_next (generation.expr R C e s n) _ (λ v. all_next (slot R C (Refusal.storage_unwritten p x) x) _ (λ k. all_ok _ (omega arith)))
@@ -78,8 +78,8 @@ module _ (R : Rules) (C : Contract) where
         all_next (slot R C (Refusal.mapping_unwritten p x) x) _ (λ k.
         all_next (generation.expr R C e s n) _ (λ v.
         all_next (generation.expr R C f s v.next) _ (λ w.
-        all_next (alloc-reg R C p w.next) _ (λ b.
-        all_next (alloc-reg R C p (suc b)) _ (λ t. all_ok _ (omega arith))))))
+        all_next (alloc_reg_lem R C p w.next) _ (λ b.
+        all_next (alloc_reg_lem R C p (suc b)) _ (λ t. all_ok _ (omega arith))))))
     stmt-scope (Stmt.if-else p c t e) s n =
         all_next (generation.expr R C c s n) _ (λ v.
         all_bind (generation.stmts R C e s n) _ (stmts-scope e s n) (λ a h.
@@ -89,12 +89,12 @@ module _ (R : Rules) (C : Contract) where
     stmt-scope (Stmt.for p x e f b) s n =
         all_next (generation.expr R C e s n) _ (λ v.
         all_next (generation.expr R C f s v.next) _ (λ w.
-        all_next (alloc-reg R C p w.next) _ (λ i.
-        all_next (alloc-reg R C p (suc i)) _ (λ c.
+        all_next (alloc_reg_lem R C p w.next) _ (λ i.
+        all_next (alloc_reg_lem R C p (suc i)) _ (λ c.
         all_next (generation.stmts R C b (with_name x i s) (suc i)) _ (λ d.
-        all_next (alloc-reg R C p d.next) _ (λ o. all_ok _ (omega arith)))))))
-    stmt-scope (Stmt.return p e) s n = all_next (alloc-reg R C p n) _ (λ t. all_next (generation.expr R C e s (suc t)) _ (λ v. all_ok _ (omega arith)))
-    stmt-scope (Stmt.return-none p) s n = all_next (alloc-reg R C p n) _ (λ t. all_next (alloc-reg R C p (suc t)) _ (λ z. all_ok _ (omega arith)))
+        all_next (alloc_reg_lem R C p d.next) _ (λ o. all_ok _ (omega arith)))))))
+    stmt-scope (Stmt.return p e) s n = all_next (alloc_reg_lem R C p n) _ (λ t. all_next (generation.expr R C e s (suc t)) _ (λ v. all_ok _ (omega arith)))
+    stmt-scope (Stmt.return-none p) s n = all_next (alloc_reg_lem R C p n) _ (λ t. all_next (alloc_reg_lem R C p (suc t)) _ (λ z. all_ok _ (omega arith)))
     stmt-scope (Stmt.emits p x es) s n = all_next (logs R C p es s n) _ (λ l. all_ok _ (omega arith))
     stmt-scope (Stmt.just p e) s n = all_next (generation.expr R C e s n) _ (λ v. all_ok _ (omega arith))
 

@@ -19,8 +19,8 @@ use Rattle.rules.specs.Build.{judged, program, words_of}
 use Rattle.bounds.specs.Answers.{All, from_ok, all_bind, all_map}
 use Rattle.bounds.specs.Held.{Each}
 use Rattle.bounds.specs.Numbers.{Encodable, all_no_top, all_read_back}
-use Rattle.bounds.specs.Fields.{Operand, bits_in, may, Within, all-unset}
-use Rattle.bounds.specs.Ranges.{Ranged, firsts_up, functions-fine, program-fine}
+use Rattle.bounds.specs.Fields.{Operand, bits_in, may, Within, all_unset}
+use Rattle.bounds.specs.Ranges.{Ranged, firsts_up, functions_fine, program_fine}
 use Rattle.bounds.specs.Cuts.{cut, offset_small}
 use Rattle.bounds.specs.ContractOf.{nodes_few}
 use Rattle.bounds.specs.Said.{said_all}
@@ -48,7 +48,7 @@ pub built : (R : Rules) → R.free ≤ 30 → (img : List ℕ) (q m : ℕ) → c
     → All (λ (b : Built). Short i b) (functions R (contract_at img) i (contract_at img).functions)
 built R h img q m e i =
     let z = nodes_few img q m e in
-    all_map (functions-fine R (contract_at img) h (cut img).storage (offset_below img) i (contract_at img).functions (omega (arith, z)))
+    all_map (functions_fine R (contract_at img) h (cut img).storage (offset_below img) i (contract_at img).functions (omega (arith, z)))
     (λ b g. record { few = omega (arith, z, g.0); ranged = g.1; firsts = firsts_up _ _ (omega (arith, z)) b.table g.2 })
 
 -- The program that the tree of a checked image comes to, whatever the rules.
@@ -56,7 +56,7 @@ pub generated : (R : Rules) → R.free ≤ 30 → (img : List ℕ) (q m : ℕ) �
 unfolding words_of
 generated R h img q m e =
     let z = nodes_few img q m e in
-    all_map (program-fine R (contract_at img) h (cut img).storage (offset_below img) (omega (arith, z)))
+    all_map (program_fine R (contract_at img) h (cut img).storage (offset_below img) (omega (arith, z)))
     (λ P g. record { short = omega (arith, z, g.long); encodable = λ i w a. (g.emitted i w a).0; within = λ i w a. (g.emitted i w a).1; read_back = all_read_back P.words (λ i w a. (g.emitted i w a).0) })
 
 -- Every program that an image comes to, for a target of 30 free registers at most.
@@ -74,4 +74,4 @@ program_no_top R h img P e = all_no_top P.words (program_bounded R h img P e).en
 -- 02: P7: each word of it has zero in each field that a ruled table says is not set.
 pub program_unset : (R : Rules) → R.free ≤ 30 → (img : List ℕ) (P : Program) → program R img ≡ ok P → (t : List ℕ) → Ruled t → (i n : ℕ) → At (words_of P) i n → (k : Operand) → may k (fact_in (get_or t (n % 2 ^ 8) 0)) ≡ false → bits_in k n ≡ 0
 unfolding words_of
-program_unset R h img P e t ruled = let b = program_bounded R h img P e in all-unset t ruled P.words (λ i w a. (b.encodable i w a, b.within i w a))
+program_unset R h img P e t ruled = let b = program_bounded R h img P e in all_unset t ruled P.words (λ i w a. (b.encodable i w a, b.within i w a))

@@ -12,7 +12,7 @@ use Rattle.rules.specs.Emit.{Rules}
 use Rattle.rules.specs.Build.{analysed, judged, program}
 use Rattle.bounds.specs.Said.{Said, Any, Allows, AllowsFaults}
 use Rattle.bounds.specs.ContractOf.{uncut}
-use Rattle.bounds.specs.SaidProgram.{Of, generate-said, analysed-said, judged-said, program-said}
+use Rattle.bounds.specs.SaidProgram.{Of, generate_said, analysed_said, judged_said, program_said}
 
 -- A number from 1 to 255, a place of at most 65,536, and no count.
 pub record Plain (r : Refusal) : Type 0 where
@@ -72,14 +72,14 @@ plain img small = record {
 
 -- Of any image.
 pub analysed_plain : (img : List ℕ) → Said Plain (Of img) (analysed img)
-analysed_plain img = analysed-said img Plain faults (λ h. (plain img h).front)
+analysed_plain img = analysed_said img Plain faults (λ h. (plain img h).front)
 
 pub judged_plain : (img : List ℕ) → Said Plain (Of img) (judged img)
-judged_plain img = judged-said img Plain faults (λ h. (plain img h).front)
+judged_plain img = judged_said img Plain faults (λ h. (plain img h).front)
 
 -- What generation refuses of one that passed the check.
 pub generate_plain : (R : Rules) (img : List ℕ) (q m : ℕ) → check_of img ≡ Sound q m → Said Plain (Any Program) (generate R (contract_at img))
-generate_plain R img q m e = generate-said img q m e Plain (plain img (uncut img q m e).bytes).generation R
+generate_plain R img q m e = generate_said img q m e Plain (plain img (uncut img q m e).bytes).generation R
 
 pub program_plain : (R : Rules) (img : List ℕ) → Said Plain (Any Program) (program R img)
-program_plain R img = program-said img Plain faults R (plain img)
+program_plain R img = program_said img Plain faults R (plain img)

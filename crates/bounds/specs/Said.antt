@@ -32,25 +32,25 @@ Any A a = Unit {0}
 
 module _ {A : Type 0} {Q : Refusal → Type 0} {P : A → Type 0} where
   -- First one answer, then the next.
-  pub said-then : {B : Type 0} {O : B → Type 0} (m : Res B) (f : B → Res A) → Said Q O m → ((b : B) → O b → Said Q P (f b)) → Said Q P (m >>= f)
+  pub said_then : {B : Type 0} {O : B → Type 0} (m : Res B) (f : B → Res A) → Said Q O m → ((b : B) → O b → Said Q P (f b)) → Said Q P (m >>= f)
   unfolding ◌>>=◌
-  said-then m f (said_ok b h) k = k b h
-  said-then m f (said_bad r h) k = said_bad r h
+  said_then m f (said_ok b h) k = k b h
+  said_then m f (said_bad r h) k = said_bad r h
 
-  pub said-pick : (b : Bool) (x y : Res A) → Said Q P x → Said Q P y → Said Q P (pick b x y)
+  pub said_pick : (b : Bool) (x y : Res A) → Said Q P x → Said Q P y → Said Q P (pick b x y)
   unfolding pick
-  said-pick true x y p q = p
-  said-pick false x y p q = q
+  said_pick true x y p q = p
+  said_pick false x y p q = q
 
-  pub said-known : (r : Refusal) (o : Option A) → Q r → Opt P o → Said Q P (known r o)
+  pub said_known : (r : Refusal) (o : Option A) → Q r → Opt P o → Said Q P (known r o)
   unfolding known
-  said-known r (some a) h g = said_ok a g
-  said-known r none h g = said_bad r h
+  said_known r (some a) h g = said_ok a g
+  said_known r none h g = said_bad r h
 
-  pub said-unless : (b : Bool) (r : Refusal) (a : A) → Q r → P a → Said Q P (unless b r a)
+  pub said_unless : (b : Bool) (r : Refusal) (a : A) → Q r → P a → Said Q P (unless b r a)
   unfolding unless
-  said-unless true r a h g = said_bad r h
-  said-unless false r a h g = said_ok a g
+  said_unless true r a h g = said_bad r h
+  said_unless false r a h g = said_ok a g
 
   -- What is refused, of an answer that is known.
   pub said_of : {m : Res A} {r : Refusal} → Said Q P m → m ≡ bad r → Q r
@@ -185,20 +185,20 @@ module _ (m : ℕ) where
         children-low _ s _ _ d _ 0 _ (omega (arith, start_low (kind_at s at) (at + 6) (end_at s at) z.1, n)) n)
         (λ e. (positive (refusal_of (header_of s at end left d i vars)) e, numbered s at end left d i vars, h))
 
-  records-low : (left : ℕ) (s : List ℕ) (at end d i vars : ℕ) → at ≤ m → end ≤ m → Low m (record_of left s at end d i vars)
+  records_low : (left : ℕ) (s : List ℕ) (at end d i vars : ℕ) → at ≤ m → end ≤ m → Low m (record_of left s at end d i vars)
   unfolding record_of
-  records-low zero = record-low (λ s at end d i vars. Fault 6 at) (λ s at end d i vars h g. (omega arith, omega arith, h)) zero
-  records-low (suc left) = record-low (record_of left) (records-low left) (suc left)
+  records_low zero = record-low (λ s at end d i vars. Fault 6 at) (λ s at end d i vars h g. (omega arith, omega arith, h)) zero
+  records_low (suc left) = record-low (record_of left) (records_low left) (suc left)
 
-  whole-low : (img : List ℕ) (x : Seen) → Low m x → Low m (whole_of img x)
+  whole_low : (img : List ℕ) (x : Seen) → Low m x → Low m (whole_of img x)
   unfolding whole_of
-  whole-low img (Sound q v) h = low_test m _ _ _ (λ e. (omega arith, omega arith, h)) (λ e. h)
-  whole-low img (Fault n p) h = h
+  whole_low img (Sound q v) h = low_test m _ _ _ (λ e. (omega arith, omega arith, h)) (λ e. h)
+  whole_low img (Fault n p) h = h
 
 check_low : (img : List ℕ) → Low 65536 (check_of img)
 unfolding check_of
 check_low img = low_test 65536 _ _ _ (λ e. (omega arith, omega arith, omega arith))
-    (λ e. let h = ltb-false _ _ e in whole-low 65536 img (record_of 64 img 0 (length img) 1 0 0) (records-low 65536 64 img 0 (length img) 1 0 0 (omega arith) h))
+    (λ e. let h = ltb-false _ _ e in whole_low 65536 img (record_of 64 img 0 (length img) 1 0 0) (records_low 65536 64 img 0 (length img) 1 0 0 (omega arith) h))
 
 -- Rows 1 to 7: the number and the place of a fault; else the check was passed.
 pub check_said : (img : List ℕ) (Q : Refusal → Type 0) → AllowsFaults Q

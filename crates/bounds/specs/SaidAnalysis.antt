@@ -11,11 +11,11 @@ use Rattle.rules.specs.Types.{Typ, type_named, Local, Env, find}
 use Rattle.rules.specs.Refusal.{Refusal}
 use Rattle.rules.specs.Builtins.{Builtin, builtin, arity}
 use Rattle.rules.specs.Analyse as analysis
-use Rattle.rules.specs.Ambiguous.{is_ambiguous_lem, inExpr, inExprs, inInits, inStmt, inStmts, inFunctions, first_ambiguous_lem}
+use Rattle.rules.specs.Ambiguous.{is_ambiguous_lem, inExpr, inExprs, inInits, inStmt, inStmts, in_functions, first_ambiguous_lem}
 use Rattle.rules.specs.Build.{clear}
 use Rattle.bounds.specs.Held.{Opt, opt_or, opt_pick, Each, each_last}
-use Rattle.bounds.specs.Whole.{Short, ShortTypes, Here, Named, Whole, Whole-exprs, Whole-inits, Whole-stmt, Whole-stmts, Whole-function}
-use Rattle.bounds.specs.Said.{Said, said_ok, said_bad, Any, said-then, said-pick, said-known, said_found, said-unless, ShortType, AllowsFront}
+use Rattle.bounds.specs.Whole.{Short, ShortTypes, Here, Named, Whole, Whole-exprs, Whole-inits, Whole-stmt, Whole-stmts, WholeFunction}
+use Rattle.bounds.specs.Said.{Said, said_ok, said_bad, Any, said_then, said_pick, said_known, said_found, said_unless, ShortType, AllowsFront}
 
 -- 001: Type::from_str, of a short name
 short_named : (x : Name) → Short x → ShortType (type_named x)
@@ -91,41 +91,41 @@ module _ (img : List ℕ) (Q : Refusal → Type 0) (A : AllowsFront img Q) (C : 
   abbrev Args : List analysis.Arg → Type 0
   Args vs = Each (λ (a : analysis.Arg). Here img a.place) vs
 
-  misfit-said : (ps : List Typ) (i : ℕ) (vs : List analysis.Arg) → Args vs → Opt (λ (k : analysis.Misfit). Here img k.place) (analysis.misfit ps i vs)
+  misfit_said : (ps : List Typ) (i : ℕ) (vs : List analysis.Arg) → Args vs → Opt (λ (k : analysis.Misfit). Here img k.place) (analysis.misfit ps i vs)
   unfolding analysis.misfit
-  misfit-said ps i [] h = tt
-  misfit-said ps i (a ∷ vs) h = opt_pick _ _ _ _ h.0 (misfit-said ps (suc i) vs h.1)
+  misfit_said ps i [] h = tt
+  misfit_said ps i (a ∷ vs) h = opt_pick _ _ _ _ h.0 (misfit_said ps (suc i) vs h.1)
 
   fits_said : (f : Name) (o : Option analysis.Misfit) (t : Typ) → Short f → ShortType t → Opt (λ (k : analysis.Misfit). Here img k.place) o → Said Q ShortType (analysis.fits f o t)
   unfolding analysis.fits
   fits_said f none t z g h = said_ok t g
   fits_said f (some k) t z g h = said_bad (Refusal.arg_type k.place k.index f) (A.arg_type _ _ f h z)
 
-  applied-said : (p : ℕ) (f : Name) (n : ℕ) (o : Option analysis.Misfit) (s : Option analysis.Sig) → Named img p f → Opt (λ (k : analysis.Misfit). Here img k.place) o
+  applied_said : (p : ℕ) (f : Name) (n : ℕ) (o : Option analysis.Misfit) (s : Option analysis.Sig) → Named img p f → Opt (λ (k : analysis.Misfit). Here img k.place) o
       → Opt (λ (s : analysis.Sig). ShortType s.ret) s → Said Q ShortType (analysis.applied p f n o s)
   unfolding analysis.applied analysis.fitted
-  applied-said p f n o none h g z = said_bad (Refusal.no_function p f) (A.no_function p f h)
-  applied-said p f n o (some s) h g z = said-pick _ _ _ (fits_said f o s.ret h.short z g) (said_bad (Refusal.arg_count p f (length s.params) n) (A.arg_count p f _ _ h))
+  applied_said p f n o none h g z = said_bad (Refusal.no_function p f) (A.no_function p f h)
+  applied_said p f n o (some s) h g z = said_pick _ _ _ (fits_said f o s.ret h.short z g) (said_bad (Refusal.arg_count p f (length s.params) n) (A.arg_count p f _ _ h))
 
-  init-said : (p : ℕ) (x : Name) (o : Option Typ) (t : Typ) → Named img p x → Said Q (Any (Unit {0})) (analysis.init_fits_lem p x o t)
+  init_said : (p : ℕ) (x : Name) (o : Option Typ) (t : Typ) → Named img p x → Said Q (Any (Unit {0})) (analysis.init_fits_lem p x o t)
   unfolding analysis.init_fits_lem
-  init-said p x none t h = said_bad (Refusal.init_field p x) (A.init_field p x h)
-  init-said p x (some e) t h = said-unless _ _ _ (A.init_type p x h) tt
+  init_said p x none t h = said_bad (Refusal.init_field p x) (A.init_field p x h)
+  init_said p x (some e) t h = said_unless _ _ _ (A.init_type p x h) tt
 
-  field-said : (p : ℕ) (s x : Name) (o : Option Struct) → Here img p → Short s → Short x → Opt (λ (d : Struct). ShortTypes d.fields) o → Said Q ShortType (analysis.field_of p s x o)
+  field_said : (p : ℕ) (s x : Name) (o : Option Struct) → Here img p → Short s → Short x → Opt (λ (d : Struct). ShortTypes d.fields) o → Said Q ShortType (analysis.field_of p s x o)
   unfolding analysis.field_of
-  field-said p s x none h g z d = said_ok _ tt
-  field-said p s x (some t) h g z d = said-known _ _ (A.no_field p s x h g z) (short_field x t d)
+  field_said p s x none h g z d = said_ok _ tt
+  field_said p s x (some t) h g z d = said_known _ _ (A.no_field p s x h g z) (short_field x t d)
 
-  access-said : (p : ℕ) (t : Typ) (x : Name) → Here img p → ShortType t → Short x → Said Q ShortType (analysis.access C p t x)
-  unfolding analysis.access analysis.structNamed
-  access-said p (Typ.struct s) x h g z =
-      field-said p s x (last analysis.struct_name s C.structs) h g z (each_last (λ (d : Struct). ShortTypes d.fields) analysis.struct_name s C.structs S.structs)
-  access-said p Typ.unknown x h g z = said_ok _ tt
-  access-said p Typ.u64 x h g z = said_bad (Refusal.not_struct p) (A.not_struct p h)
-  access-said p Typ.bool x h g z = said_bad (Refusal.not_struct p) (A.not_struct p h)
-  access-said p Typ.field x h g z = said_bad (Refusal.not_struct p) (A.not_struct p h)
-  access-said p Typ.void x h g z = said_bad (Refusal.not_struct p) (A.not_struct p h)
+  access_said : (p : ℕ) (t : Typ) (x : Name) → Here img p → ShortType t → Short x → Said Q ShortType (analysis.access C p t x)
+  unfolding analysis.access analysis.struct_named
+  access_said p (Typ.struct s) x h g z =
+      field_said p s x (last analysis.struct_name s C.structs) h g z (each_last (λ (d : Struct). ShortTypes d.fields) analysis.struct_name s C.structs S.structs)
+  access_said p Typ.unknown x h g z = said_ok _ tt
+  access_said p Typ.u64 x h g z = said_bad (Refusal.not_struct p) (A.not_struct p h)
+  access_said p Typ.bool x h g z = said_bad (Refusal.not_struct p) (A.not_struct p h)
+  access_said p Typ.field x h g z = said_bad (Refusal.not_struct p) (A.not_struct p h)
+  access_said p Typ.void x h g z = said_bad (Refusal.not_struct p) (A.not_struct p h)
 
   mutual
     unfolding analysis.expr analysis.exprs analysis.inits Whole Whole-exprs Whole-inits
@@ -133,24 +133,24 @@ module _ (img : List ℕ) (Q : Refusal → Type 0) (A : AllowsFront img Q) (C : 
     type-said : (e : Expr) (Γ : Env) → Whole img e → ShortEnv Γ → Said Q ShortType (analysis.expr C e Γ)
     type-said (Expr.no-expr p) Γ h g = absurd h
     type-said (Expr.int p v) Γ h g = said_ok _ tt
-    type-said (Expr.ident p x) Γ h g = said-known _ _ (A.undefined_name p x h) (short_find x Γ g)
+    type-said (Expr.ident p x) Γ h g = said_known _ _ (A.undefined_name p x h) (short_find x Γ g)
     type-said (Expr.storage-read p x) Γ h g = said_ok _ tt
-    type-said (Expr.mapping-read p x e) Γ h g = said-then _ _ (type-said e Γ h.1 g) (λ k u. said_ok _ tt)
-    type-said (Expr.field-access p e x) Γ h g = said-then _ _ (type-said e Γ h.1 g) (λ t u. access-said p t x h.0 u h.2)
+    type-said (Expr.mapping-read p x e) Γ h g = said_then _ _ (type-said e Γ h.1 g) (λ k u. said_ok _ tt)
+    type-said (Expr.field-access p e x) Γ h g = said_then _ _ (type-said e Γ h.1 g) (λ t u. access_said p t x h.0 u h.2)
     type-said (Expr.literal p x is) Γ h g =
-        said-then _ _ (said_found _ _ (A.no_struct p x h.0)) (λ s u. said-then _ _ (fields-said s is Γ h.2 g) (λ v w. said_ok _ h.0.short))
+        said_then _ _ (said_found _ _ (A.no_struct p x h.0)) (λ s u. said_then _ _ (fields-said s is Γ h.2 g) (λ v w. said_ok _ h.0.short))
     type-said (Expr.binary p a o b) Γ h g =
-        said-then _ _ (type-said a Γ h.1 g) (λ l u. said-then _ _ (type-said b Γ h.2 g) (λ r w. said-unless _ _ _ (A.operands p h.0) u))
+        said_then _ _ (type-said a Γ h.1 g) (λ l u. said_then _ _ (type-said b Γ h.2 g) (λ r w. said_unless _ _ _ (A.operands p h.0) u))
     type-said (Expr.call p f es) Γ h g =
-        said-then _ _ (types-said es Γ h.2 g) (λ vs u. applied-said p f _ _ _ h.0 (misfit-said _ 0 vs u) (short_signature C S f))
+        said_then _ _ (types-said es Γ h.2 g) (λ vs u. applied_said p f _ _ _ h.0 (misfit_said _ 0 vs u) (short_signature C S f))
 
     types-said : (es : Exprs) (Γ : Env) → Whole-exprs img es → ShortEnv Γ → Said Q Args (analysis.exprs C es Γ)
     types-said Exprs.none Γ h g = said_ok _ tt
-    types-said (Exprs.more e es) Γ h g = said-then _ _ (type-said e Γ h.0 g) (λ t u. said-then _ _ (types-said es Γ h.1 g) (λ vs w. said_ok _ (own e h.0, w)))
+    types-said (Exprs.more e es) Γ h g = said_then _ _ (type-said e Γ h.0 g) (λ t u. said_then _ _ (types-said es Γ h.1 g) (λ vs w. said_ok _ (own e h.0, w)))
 
     fields-said : (s : Struct) (is : Inits) (Γ : Env) → Whole-inits img is → ShortEnv Γ → Said Q (Any (Unit {0})) (analysis.inits C s is Γ)
     fields-said s Inits.no-init Γ h g = said_ok _ tt
-    fields-said s (Inits.init p x e is) Γ h g = said-then _ _ (type-said e Γ h.1 g) (λ t u. said-then _ _ (init-said p x _ t h.0) (λ w z. fields-said s is Γ h.2 g))
+    fields-said s (Inits.init p x e is) Γ h g = said_then _ _ (type-said e Γ h.1 g) (λ t u. said_then _ _ (init_said p x _ t h.0) (λ w z. fields-said s is Γ h.2 g))
 
   module _ (ret : Typ) (R : ShortType ret) where
     mutual
@@ -158,33 +158,33 @@ module _ (img : List ℕ) (Q : Refusal → Type 0) (A : AllowsFront img Q) (C : 
 
       scope-said : (x : Stmt) (Γ : Env) → Whole-stmt img x → ShortEnv Γ → Said Q ShortEnv (analysis.stmt C ret x Γ)
       scope-said (Stmt.no-stmt p) Γ h g = absurd h
-      scope-said (Stmt.let-in p x e) Γ h g = said-then _ _ (type-said e Γ h.1 g) (λ t u. said_ok _ (u, g))
-      scope-said (Stmt.constrain p e) Γ h g = said-then _ _ (type-said e Γ h.1 g) (λ t u. said_ok _ g)
+      scope-said (Stmt.let-in p x e) Γ h g = said_then _ _ (type-said e Γ h.1 g) (λ t u. said_ok _ (u, g))
+      scope-said (Stmt.constrain p e) Γ h g = said_then _ _ (type-said e Γ h.1 g) (λ t u. said_ok _ g)
       scope-said (Stmt.assign p x e) Γ h g =
-          said-then _ _ (said-known _ _ (A.undefined_target p x h.0) (short_find x Γ g)) (λ a u.
-          said-then _ _ (type-said e Γ h.1 g) (λ t w. said-unless _ _ _ (A.assign_type p a t h.0.here u w) g))
-      scope-said (Stmt.storage-write p x e) Γ h g = said-then _ _ (type-said e Γ h.1 g) (λ t u. said_ok _ g)
-      scope-said (Stmt.mapping-write p x e f) Γ h g = said-then _ _ (type-said e Γ h.1 g) (λ k u. said-then _ _ (type-said f Γ h.2 g) (λ t w. said_ok _ g))
-      scope-said (Stmt.if-else p c t e) Γ h g = said-then _ _ (type-said c Γ h.1 g) (λ k u. said-then _ _ (scopes-said t Γ h.3 g) (λ Δ w. scopes-said e Δ h.5 w))
-      scope-said (Stmt.while p c b) Γ h g = said-then _ _ (type-said c Γ h.1 g) (λ k u. scopes-said b Γ h.3 g)
+          said_then _ _ (said_known _ _ (A.undefined_target p x h.0) (short_find x Γ g)) (λ a u.
+          said_then _ _ (type-said e Γ h.1 g) (λ t w. said_unless _ _ _ (A.assign_type p a t h.0.here u w) g))
+      scope-said (Stmt.storage-write p x e) Γ h g = said_then _ _ (type-said e Γ h.1 g) (λ t u. said_ok _ g)
+      scope-said (Stmt.mapping-write p x e f) Γ h g = said_then _ _ (type-said e Γ h.1 g) (λ k u. said_then _ _ (type-said f Γ h.2 g) (λ t w. said_ok _ g))
+      scope-said (Stmt.if-else p c t e) Γ h g = said_then _ _ (type-said c Γ h.1 g) (λ k u. said_then _ _ (scopes-said t Γ h.3 g) (λ Δ w. scopes-said e Δ h.5 w))
+      scope-said (Stmt.while p c b) Γ h g = said_then _ _ (type-said c Γ h.1 g) (λ k u. scopes-said b Γ h.3 g)
       scope-said (Stmt.for p x e f b) Γ h g =
-          said-then _ _ (type-said e Γ h.1 g) (λ k u. said-then _ _ (type-said f Γ h.2 g) (λ t w. said-then _ _ (scopes-said b _ h.4 (tt, g)) (λ Δ z. said_ok _ g)))
-      scope-said (Stmt.return p e) Γ h g = said-then _ _ (type-said e Γ h.1 g) (λ t u. said-unless _ _ _ (A.return_type p ret t h.0 R u) g)
-      scope-said (Stmt.return-none p) Γ h g = said-unless _ _ _ (A.return_type p ret Typ.void h R tt) g
-      scope-said (Stmt.emits p x es) Γ h g = said-then _ _ (types-said es Γ h.2 g) (λ vs u. said_ok _ g)
-      scope-said (Stmt.just p e) Γ h g = said-then _ _ (type-said e Γ h.1 g) (λ t u. said_ok _ g)
+          said_then _ _ (type-said e Γ h.1 g) (λ k u. said_then _ _ (type-said f Γ h.2 g) (λ t w. said_then _ _ (scopes-said b _ h.4 (tt, g)) (λ Δ z. said_ok _ g)))
+      scope-said (Stmt.return p e) Γ h g = said_then _ _ (type-said e Γ h.1 g) (λ t u. said_unless _ _ _ (A.return_type p ret t h.0 R u) g)
+      scope-said (Stmt.return-none p) Γ h g = said_unless _ _ _ (A.return_type p ret Typ.void h R tt) g
+      scope-said (Stmt.emits p x es) Γ h g = said_then _ _ (types-said es Γ h.2 g) (λ vs u. said_ok _ g)
+      scope-said (Stmt.just p e) Γ h g = said_then _ _ (type-said e Γ h.1 g) (λ t u. said_ok _ g)
 
       scopes-said : (xs : Stmts) (Γ : Env) → Whole-stmts img xs → ShortEnv Γ → Said Q ShortEnv (analysis.stmts C ret xs Γ)
       scopes-said Stmts.none Γ h g = said_ok _ g
-      scopes-said (Stmts.more x xs) Γ h g = said-then _ _ (scope-said x Γ h.0 g) (λ Δ u. scopes-said xs Δ h.1 u)
+      scopes-said (Stmts.more x xs) Γ h g = said_then _ _ (scope-said x Γ h.0 g) (λ Δ u. scopes-said xs Δ h.1 u)
 
   -- Rows 10 to 22.
-  pub analysis-said : (fs : List Function) → Each (λ (f : Function). Whole-function img f) fs → Said Q (Any (Unit {0})) (analysis.functions C fs)
+  pub analysis_said : (fs : List Function) → Each (λ (f : Function). WholeFunction img f) fs → Said Q (Any (Unit {0})) (analysis.functions C fs)
   unfolding analysis.functions analysis.function
-  analysis-said [] h = said_ok _ tt
-  analysis-said (f ∷ fs) h =
-      said-then {O = Any (Unit {0})} _ _ (said-then _ _ (scopes-said _ (short_ret f.ret h.0.ret) f.body _ h.0.stmts (short_params f.params [] h.0.types tt)) (λ Γ u. said_ok _ tt))
-      (λ w z. analysis-said fs h.1)
+  analysis_said [] h = said_ok _ tt
+  analysis_said (f ∷ fs) h =
+      said_then {O = Any (Unit {0})} _ _ (said_then _ _ (scopes-said _ (short_ret f.ret h.0.ret) f.body _ h.0.stmts (short_params f.params [] h.0.types tt)) (λ Γ u. said_ok _ tt))
+      (λ w z. analysis_said fs h.1)
 
 -- Row 30.
 module _ (img : List ℕ) (C : Contract) where
@@ -232,15 +232,15 @@ module _ (img : List ℕ) (C : Contract) where
     stmts-spot Stmts.none h = tt
     stmts-spot (Stmts.more x xs) h = opt_or _ _ _ (stmt-spot x h.0) (stmts-spot xs h.1)
 
-  functions-spot : (fs : List Function) → Each (λ (f : Function). Whole-function img f) fs → Opt (Here img) (inFunctions C fs)
-  unfolding inFunctions
-  functions-spot [] h = tt
-  functions-spot (f ∷ fs) h = opt_or _ _ _ (stmts-spot f.body h.0.stmts) (functions-spot fs h.1)
+  functions_spot : (fs : List Function) → Each (λ (f : Function). WholeFunction img f) fs → Opt (Here img) (in_functions C fs)
+  unfolding in_functions
+  functions_spot [] h = tt
+  functions_spot (f ∷ fs) h = opt_or _ _ _ (stmts-spot f.body h.0.stmts) (functions_spot fs h.1)
 
   -- The first ambiguous access.
-  pub clear-said : (Q : Refusal → Type 0) → AllowsFront img Q → Each (λ (f : Function). Whole-function img f) C.functions → Said Q (Any (Unit {0})) (clear (first_ambiguous_lem C))
+  pub clear_said : (Q : Refusal → Type 0) → AllowsFront img Q → Each (λ (f : Function). WholeFunction img f) C.functions → Said Q (Any (Unit {0})) (clear (first_ambiguous_lem C))
   unfolding clear first_ambiguous_lem
-  clear-said Q A h = by (inFunctions C C.functions) (functions-spot C.functions h)
+  clear_said Q A h = by (in_functions C C.functions) (functions_spot C.functions h)
     where
       by : (o : Option ℕ) → Opt (Here img) o → Said Q (Any (Unit {0})) (clear o)
       by none g = said_ok _ tt

@@ -16,14 +16,14 @@ use Rattle.rules.specs.Builtins.{Builtin}
 use Rattle.rules.specs.Analyse.{analyse}
 use Rattle.rules.specs.Ambiguous.{first_ambiguous_lem}
 use Rattle.rules.specs.Emit.{Rules, Scope, Values, AtReg}
-use Rattle.rules.specs.Generate.{alloc-reg, slot, result, apply, number, expr, exprs, inits, logs, stmt, stmts, alloc-regs, function}
+use Rattle.rules.specs.Generate.{alloc_reg_lem, slot, result, apply, number, expr, exprs, inits, logs, stmt, stmts, alloc_regs, function}
 use Rattle.rules.specs.Link.{Program, functions, with_main, generate}
 use Rattle.rules.specs.Build.{clear, analysed, judged, program}
 use Rattle.bounds.specs.Held.{Opt, Each}
-use Rattle.bounds.specs.Whole.{Short, Here, Whole, Whole-exprs, Whole-inits, Whole-stmt, Whole-stmts, Whole-function}
+use Rattle.bounds.specs.Whole.{Short, Here, Whole, Whole-exprs, Whole-inits, Whole-stmt, Whole-stmts, WholeFunction}
 use Rattle.bounds.specs.ContractOf.{uncut, all_whole}
-use Rattle.bounds.specs.Said.{Said, said_ok, said_bad, Any, said-then, said-pick, said_found, AllowsFront, AllowsGeneration, Allows, AllowsFaults, check_said}
-use Rattle.bounds.specs.SaidAnalysis.{analysis-said, clear-said}
+use Rattle.bounds.specs.Said.{Said, said_ok, said_bad, Any, said_then, said_pick, said_found, AllowsFront, AllowsGeneration, Allows, AllowsFaults, check_said}
+use Rattle.bounds.specs.SaidAnalysis.{analysis_said, clear_said}
 
 -- Nothing is said of the answer.
 abbrev Sure : (Q : Refusal → Type 0) {A : Type 0} → Res A → Type 0
@@ -31,62 +31,62 @@ Sure Q {A} m = Said Q (Any A) m
 
 -- Generation.
 module _ (img : List ℕ) (Q : Refusal → Type 0) (A : AllowsGeneration img Q) (R : Rules) (C : Contract) where
-  alloc-said : (p n : ℕ) → Here img p → Sure Q (alloc-reg R C p n)
-  unfolding alloc-reg
-  alloc-said p n h = said-pick _ _ _ (said_ok n tt) (said_bad _ (A.exhausted p h))
+  alloc_said : (p n : ℕ) → Here img p → Sure Q (alloc_reg_lem R C p n)
+  unfolding alloc_reg_lem
+  alloc_said p n h = said_pick _ _ _ (said_ok n tt) (said_bad _ (A.exhausted p h))
 
-  slot-said : (r : Refusal) (x : Name) → Q r → Sure Q (slot R C r x)
+  slot_said : (r : Refusal) (x : Name) → Q r → Sure Q (slot R C r x)
   unfolding slot
-  slot-said r x h = said_found _ _ h
+  slot_said r x h = said_found _ _ h
 
-  result-said : (p n : ℕ) (l r : AtReg) → Here img p → Sure Q (result R C p n l r)
+  result_said : (p n : ℕ) (l r : AtReg) → Here img p → Sure Q (result R C p n l r)
   unfolding result
-  result-said p n l r h = said-pick _ _ _ (said_ok _ tt) (said-pick _ _ _ (said_ok _ tt) (alloc-said p _ h))
+  result_said p n l r h = said_pick _ _ _ (said_ok _ tt) (said_pick _ _ _ (said_ok _ tt) (alloc_said p _ h))
 
-  apply-said : (p : ℕ) (f : Name) (n : ℕ) (m : Res Values) (b : Option Builtin) → Here img p → Sure Q m → Sure Q (apply R C p f n m b)
+  apply_said : (p : ℕ) (f : Name) (n : ℕ) (m : Res Values) (b : Option Builtin) → Here img p → Sure Q m → Sure Q (apply R C p f n m b)
   unfolding apply
-  apply-said p f n m (some Builtin.poseidon) h g = said-then _ _ g (λ a w. said-then _ _ (result-said p n _ _ h) (λ d u. said_ok _ tt))
-  apply-said p f n m (some Builtin.sender) h g = said-then _ _ (alloc-said p n h) (λ d u. said_ok _ tt)
-  apply-said p f n m (some Builtin.nonce) h g = said-then _ _ (alloc-said p n h) (λ d u. said_ok _ tt)
-  apply-said p f n m (some Builtin.block-number) h g = said-then _ _ (alloc-said p n h) (λ d u. said_ok _ tt)
-  apply-said p f n m (some Builtin.merkle) h g = said-then _ _ g (λ a w. said-then _ _ (alloc-said p _ h) (λ d u. said_ok _ tt))
-  apply-said p f n m none h g = said-then _ _ g (λ a w. said-then _ _ (alloc-said p n h) (λ d u. said_ok _ tt))
+  apply_said p f n m (some Builtin.poseidon) h g = said_then _ _ g (λ a w. said_then _ _ (result_said p n _ _ h) (λ d u. said_ok _ tt))
+  apply_said p f n m (some Builtin.sender) h g = said_then _ _ (alloc_said p n h) (λ d u. said_ok _ tt)
+  apply_said p f n m (some Builtin.nonce) h g = said_then _ _ (alloc_said p n h) (λ d u. said_ok _ tt)
+  apply_said p f n m (some Builtin.block-number) h g = said_then _ _ (alloc_said p n h) (λ d u. said_ok _ tt)
+  apply_said p f n m (some Builtin.merkle) h g = said_then _ _ g (λ a w. said_then _ _ (alloc_said p _ h) (λ d u. said_ok _ tt))
+  apply_said p f n m none h g = said_then _ _ g (λ a w. said_then _ _ (alloc_said p n h) (λ d u. said_ok _ tt))
 
-  number-said : (p v n : ℕ) → Here img p → Sure Q (number R C p v n)
+  number_said : (p v n : ℕ) → Here img p → Sure Q (number R C p v n)
   unfolding number
-  number-said p v n h = said-pick _ _ _ (said-then _ _ (alloc-said p n h) (λ r u. said_ok _ tt))
-      (said-then _ _ (alloc-said p n h) (λ r u. said-then _ _ (alloc-said p _ h) (λ s w. said-then _ _ (alloc-said p _ h) (λ t z. said_ok _ tt))))
+  number_said p v n h = said_pick _ _ _ (said_then _ _ (alloc_said p n h) (λ r u. said_ok _ tt))
+      (said_then _ _ (alloc_said p n h) (λ r u. said_then _ _ (alloc_said p _ h) (λ s w. said_then _ _ (alloc_said p _ h) (λ t z. said_ok _ tt))))
 
   mutual
     unfolding expr exprs inits Whole Whole-exprs Whole-inits
 
     expr-said : (e : Expr) (s : Scope) (n : ℕ) → Whole img e → Sure Q (expr R C e s n)
     expr-said (Expr.no-expr p) s n h = absurd h
-    expr-said (Expr.int p v) s n h = number-said p v n h
-    expr-said (Expr.ident p x) s n h = said-then _ _ (said_found _ _ (A.unread p x h)) (λ r u. said_ok _ tt)
-    expr-said (Expr.storage-read p x) s n h = said-then _ _ (alloc-said p n h.here) (λ r u. said-then _ _ (slot-said _ x (A.storage_unread p x h)) (λ k w. said_ok _ tt))
+    expr-said (Expr.int p v) s n h = number_said p v n h
+    expr-said (Expr.ident p x) s n h = said_then _ _ (said_found _ _ (A.unread p x h)) (λ r u. said_ok _ tt)
+    expr-said (Expr.storage-read p x) s n h = said_then _ _ (alloc_said p n h.here) (λ r u. said_then _ _ (slot_said _ x (A.storage_unread p x h)) (λ k w. said_ok _ tt))
     expr-said (Expr.mapping-read p x e) s n h =
-        said-then _ _ (slot-said _ x (A.mapping_unread p x h.0)) (λ k u. said-then _ _ (expr-said e s n h.1) (λ v w.
-        said-then _ _ (alloc-said p _ h.0.here) (λ b y. said-then _ _ (alloc-said p _ h.0.here) (λ t z. said-then _ _ (alloc-said p _ h.0.here) (λ r q. said_ok _ tt)))))
-    expr-said (Expr.field-access p e x) s n h = said-then _ _ (expr-said e s n h.1) (λ v u. said-then _ _ (alloc-said p _ h.0) (λ r w. said_ok _ tt))
+        said_then _ _ (slot_said _ x (A.mapping_unread p x h.0)) (λ k u. said_then _ _ (expr-said e s n h.1) (λ v w.
+        said_then _ _ (alloc_said p _ h.0.here) (λ b y. said_then _ _ (alloc_said p _ h.0.here) (λ t z. said_then _ _ (alloc_said p _ h.0.here) (λ r q. said_ok _ tt)))))
+    expr-said (Expr.field-access p e x) s n h = said_then _ _ (expr-said e s n h.1) (λ v u. said_then _ _ (alloc_said p _ h.0) (λ r w. said_ok _ tt))
     expr-said (Expr.literal p x is) s n h =
-        said-then _ _ (alloc-said p n h.0.here) (λ q u. said-then _ _ (inits-said is s _ h.2) (λ a w.
-        said-then _ _ (alloc-said p _ h.0.here) (λ z y. said-then _ _ (alloc-said p n h.0.here) (λ r k. said_ok _ tt))))
-    expr-said (Expr.binary p a o b) s n h = said-then _ _ (expr-said a s n h.1) (λ l u. said-then _ _ (expr-said b s _ h.2) (λ r w. said-then _ _ (result-said p n _ _ h.0) (λ d z. said_ok _ tt)))
-    expr-said (Expr.call p f es) s n h = apply-said p f n _ _ h.0.here (exprs-said es s n h.2)
+        said_then _ _ (alloc_said p n h.0.here) (λ q u. said_then _ _ (inits-said is s _ h.2) (λ a w.
+        said_then _ _ (alloc_said p _ h.0.here) (λ z y. said_then _ _ (alloc_said p n h.0.here) (λ r k. said_ok _ tt))))
+    expr-said (Expr.binary p a o b) s n h = said_then _ _ (expr-said a s n h.1) (λ l u. said_then _ _ (expr-said b s _ h.2) (λ r w. said_then _ _ (result_said p n _ _ h.0) (λ d z. said_ok _ tt)))
+    expr-said (Expr.call p f es) s n h = apply_said p f n _ _ h.0.here (exprs-said es s n h.2)
 
     exprs-said : (es : Exprs) (s : Scope) (n : ℕ) → Whole-exprs img es → Sure Q (exprs R C es s n)
     exprs-said Exprs.none s n h = said_ok _ tt
-    exprs-said (Exprs.more e es) s n h = said-then _ _ (expr-said e s n h.0) (λ v u. said-then _ _ (exprs-said es s _ h.1) (λ vs w. said_ok _ tt))
+    exprs-said (Exprs.more e es) s n h = said_then _ _ (expr-said e s n h.0) (λ v u. said_then _ _ (exprs-said es s _ h.1) (λ vs w. said_ok _ tt))
 
     inits-said : (is : Inits) (s : Scope) (n : ℕ) → Whole-inits img is → Sure Q (inits R C is s n)
     inits-said Inits.no-init s n h = said_ok _ tt
-    inits-said (Inits.init q x e is) s n h = said-then _ _ (expr-said e s n h.1) (λ v u. said-then _ _ (inits-said is s _ h.2) (λ vs w. said_ok _ tt))
+    inits-said (Inits.init q x e is) s n h = said_then _ _ (expr-said e s n h.1) (λ v u. said_then _ _ (inits-said is s _ h.2) (λ vs w. said_ok _ tt))
 
-  logs-said : (p : ℕ) (es : Exprs) (s : Scope) (n : ℕ) → Whole-exprs img es → Sure Q (logs R C p es s n)
+  logs_said : (p : ℕ) (es : Exprs) (s : Scope) (n : ℕ) → Whole-exprs img es → Sure Q (logs R C p es s n)
   unfolding logs Whole-exprs
-  logs-said p Exprs.none s n h = said_ok _ tt
-  logs-said p (Exprs.more e es) s n h = said-then _ _ (expr-said e s n h.0) (λ v u. said-then _ _ (logs-said p es s _ h.1) (λ l w. said_ok _ tt))
+  logs_said p Exprs.none s n h = said_ok _ tt
+  logs_said p (Exprs.more e es) s n h = said_then _ _ (expr-said e s n h.0) (λ v u. said_then _ _ (logs_said p es s _ h.1) (λ l w. said_ok _ tt))
 
   mutual
     unfolding stmt stmts Whole-stmt Whole-stmts
@@ -94,70 +94,70 @@ module _ (img : List ℕ) (Q : Refusal → Type 0) (A : AllowsGeneration img Q) 
     stmt-said : (x : Stmt) (s : Scope) (n : ℕ) → Whole-stmt img x → Sure Q (stmt R C x s n)
     stmt-said (Stmt.no-stmt p) s n h = absurd h
     stmt-said (Stmt.let-in p x e) s n h =
-        said-then _ _ (expr-said e s n h.1) (λ v u. said-pick _ _ _ (said_ok _ tt) (said-pick _ _ _ (said-then _ _ (alloc-said p _ h.0.here) (λ r w. said_ok _ tt)) (said_ok _ tt)))
-    stmt-said (Stmt.constrain p e) s n h = said-then _ _ (expr-said e s n h.1) (λ v u. said_ok _ tt)
-    stmt-said (Stmt.assign p x e) s n h = said-then _ _ (expr-said e s n h.1) (λ v u. said-then _ _ (said_found _ _ (A.unassigned p x h.0)) (λ r w. said_ok _ tt))
-    stmt-said (Stmt.storage-write p x e) s n h = said-then _ _ (expr-said e s n h.1) (λ v u. said-then _ _ (slot-said _ x (A.storage_unwritten p x h.0)) (λ k w. said_ok _ tt))
+        said_then _ _ (expr-said e s n h.1) (λ v u. said_pick _ _ _ (said_ok _ tt) (said_pick _ _ _ (said_then _ _ (alloc_said p _ h.0.here) (λ r w. said_ok _ tt)) (said_ok _ tt)))
+    stmt-said (Stmt.constrain p e) s n h = said_then _ _ (expr-said e s n h.1) (λ v u. said_ok _ tt)
+    stmt-said (Stmt.assign p x e) s n h = said_then _ _ (expr-said e s n h.1) (λ v u. said_then _ _ (said_found _ _ (A.unassigned p x h.0)) (λ r w. said_ok _ tt))
+    stmt-said (Stmt.storage-write p x e) s n h = said_then _ _ (expr-said e s n h.1) (λ v u. said_then _ _ (slot_said _ x (A.storage_unwritten p x h.0)) (λ k w. said_ok _ tt))
     stmt-said (Stmt.mapping-write p x e f) s n h =
-        said-then _ _ (slot-said _ x (A.mapping_unwritten p x h.0)) (λ k u. said-then _ _ (expr-said e s n h.1) (λ v w. said-then _ _ (expr-said f s _ h.2) (λ y z.
-        said-then _ _ (alloc-said p _ h.0.here) (λ b q. said-then _ _ (alloc-said p _ h.0.here) (λ t r. said_ok _ tt)))))
+        said_then _ _ (slot_said _ x (A.mapping_unwritten p x h.0)) (λ k u. said_then _ _ (expr-said e s n h.1) (λ v w. said_then _ _ (expr-said f s _ h.2) (λ y z.
+        said_then _ _ (alloc_said p _ h.0.here) (λ b q. said_then _ _ (alloc_said p _ h.0.here) (λ t r. said_ok _ tt)))))
     stmt-said (Stmt.if-else p c t e) s n h =
-        said-then _ _ (expr-said c s n h.1) (λ v u. said-then _ _ (stmts-said e s n h.5) (λ a w. said-then _ _ (stmts-said t _ _ h.3) (λ b z. said_ok _ tt)))
-    stmt-said (Stmt.while p c b) s n h = said-then _ _ (expr-said c s n h.1) (λ v u. said-then _ _ (stmts-said b s n h.3) (λ d w. said_ok _ tt))
+        said_then _ _ (expr-said c s n h.1) (λ v u. said_then _ _ (stmts-said e s n h.5) (λ a w. said_then _ _ (stmts-said t _ _ h.3) (λ b z. said_ok _ tt)))
+    stmt-said (Stmt.while p c b) s n h = said_then _ _ (expr-said c s n h.1) (λ v u. said_then _ _ (stmts-said b s n h.3) (λ d w. said_ok _ tt))
     stmt-said (Stmt.for p x e f b) s n h =
-        said-then _ _ (expr-said e s n h.1) (λ v u. said-then _ _ (expr-said f s _ h.2) (λ w y. said-then _ _ (alloc-said p _ h.0.here) (λ i z.
-        said-then _ _ (alloc-said p _ h.0.here) (λ c q. said-then _ _ (stmts-said b _ _ h.4) (λ d r. said-then _ _ (alloc-said p _ h.0.here) (λ o k. said_ok _ tt))))))
-    stmt-said (Stmt.return p e) s n h = said-then _ _ (alloc-said p n h.0) (λ t u. said-then _ _ (expr-said e s _ h.1) (λ v w. said_ok _ tt))
-    stmt-said (Stmt.return-none p) s n h = said-then _ _ (alloc-said p n h) (λ t u. said-then _ _ (alloc-said p _ h) (λ z w. said_ok _ tt))
-    stmt-said (Stmt.emits p x es) s n h = said-then _ _ (logs-said p es s n h.2) (λ l u. said_ok _ tt)
-    stmt-said (Stmt.just p e) s n h = said-then _ _ (expr-said e s n h.1) (λ v u. said_ok _ tt)
+        said_then _ _ (expr-said e s n h.1) (λ v u. said_then _ _ (expr-said f s _ h.2) (λ w y. said_then _ _ (alloc_said p _ h.0.here) (λ i z.
+        said_then _ _ (alloc_said p _ h.0.here) (λ c q. said_then _ _ (stmts-said b _ _ h.4) (λ d r. said_then _ _ (alloc_said p _ h.0.here) (λ o k. said_ok _ tt))))))
+    stmt-said (Stmt.return p e) s n h = said_then _ _ (alloc_said p n h.0) (λ t u. said_then _ _ (expr-said e s _ h.1) (λ v w. said_ok _ tt))
+    stmt-said (Stmt.return-none p) s n h = said_then _ _ (alloc_said p n h) (λ t u. said_then _ _ (alloc_said p _ h) (λ z w. said_ok _ tt))
+    stmt-said (Stmt.emits p x es) s n h = said_then _ _ (logs_said p es s n h.2) (λ l u. said_ok _ tt)
+    stmt-said (Stmt.just p e) s n h = said_then _ _ (expr-said e s n h.1) (λ v u. said_ok _ tt)
 
     stmts-said : (xs : Stmts) (s : Scope) (n : ℕ) → Whole-stmts img xs → Sure Q (stmts R C xs s n)
     stmts-said Stmts.none s n h = said_ok _ tt
-    stmts-said (Stmts.more x xs) s n h = said-then _ _ (stmt-said x s n h.0) (λ d u. said-then _ _ (stmts-said xs _ _ h.1) (λ e w. said_ok _ tt))
+    stmts-said (Stmts.more x xs) s n h = said_then _ _ (stmt-said x s n h.0) (λ d u. said_then _ _ (stmts-said xs _ _ h.1) (λ e w. said_ok _ tt))
 
-  allocs-said : (p : ℕ) (xs : List Field) (n : ℕ) → Here img p → Sure Q (alloc-regs R C p xs n)
-  unfolding alloc-regs
-  allocs-said p [] n h = said_ok _ tt
-  allocs-said p (x ∷ xs) n h = said-then _ _ (alloc-said p n h) (λ r u. said-then _ _ (allocs-said p xs _ h) (λ rs w. said_ok _ tt))
+  allocs_said : (p : ℕ) (xs : List Field) (n : ℕ) → Here img p → Sure Q (alloc_regs R C p xs n)
+  unfolding alloc_regs
+  allocs_said p [] n h = said_ok _ tt
+  allocs_said p (x ∷ xs) n h = said_then _ _ (alloc_said p n h) (λ r u. said_then _ _ (allocs_said p xs _ h) (λ rs w. said_ok _ tt))
 
-  function-said : (f : Function) → Whole-function img f → Sure Q (function R C f)
+  function_said : (f : Function) → WholeFunction img f → Sure Q (function R C f)
   unfolding function
-  function-said f h =
-      said-then _ _ (alloc-said _ 1 h.here) (λ a u. said-then _ _ (allocs-said _ f.params _ h.here) (λ rs w. said-then _ _ (stmts-said f.body _ _ h.stmts) (λ d y.
-      said-then _ _ (alloc-said _ _ h.here) (λ t z. said-then _ _ (alloc-said _ _ h.here) (λ q r. said_ok _ tt)))))
+  function_said f h =
+      said_then _ _ (alloc_said _ 1 h.here) (λ a u. said_then _ _ (allocs_said _ f.params _ h.here) (λ rs w. said_then _ _ (stmts-said f.body _ _ h.stmts) (λ d y.
+      said_then _ _ (alloc_said _ _ h.here) (λ t z. said_then _ _ (alloc_said _ _ h.here) (λ q r. said_ok _ tt)))))
 
-  functions-said : (i : ℕ) (fs : List Function) → Each (λ (f : Function). Whole-function img f) fs → Sure Q (functions R C i fs)
+  functions_said : (i : ℕ) (fs : List Function) → Each (λ (f : Function). WholeFunction img f) fs → Sure Q (functions R C i fs)
   unfolding functions
-  functions-said i [] h = said_ok _ tt
-  functions-said i (f ∷ fs) h = said-then _ _ (function-said f h.0) (λ c u. said-then _ _ (functions-said _ fs h.1) (λ r w. said_ok _ tt))
+  functions_said i [] h = said_ok _ tt
+  functions_said i (f ∷ fs) h = said_then _ _ (function_said f h.0) (λ c u. said_then _ _ (functions_said _ fs h.1) (λ r w. said_ok _ tt))
 
   -- Rows 40 to 47.
-  generate-of : Each (λ (f : Function). Whole-function img f) C.functions → Sure Q (generate R C)
+  generate_of : Each (λ (f : Function). WholeFunction img f) C.functions → Sure Q (generate R C)
   unfolding generate with_main
-  generate-of h = with (last _ _ C.functions) (said-then _ _ (functions-said 3 C.functions h) (λ b u. said_ok _ tt))
+  generate_of h = with (last _ _ C.functions) (said_then _ _ (functions_said 3 C.functions h) (λ b u. said_ok _ tt))
     where
       with : {B : Type 0} {r : Res B} (o : Option Function) → Sure Q r → Sure Q (with_main o r)
       with none g = said_bad Refusal.no_main A.no_main
       with (some f) g = g
 
-each_ret : (img : List ℕ) (fs : List Function) → Each (λ (f : Function). Whole-function img f) fs → Each (λ (f : Function). Opt Short f.ret) fs
+each_ret : (img : List ℕ) (fs : List Function) → Each (λ (f : Function). WholeFunction img f) fs → Each (λ (f : Function). Opt Short f.ret) fs
 each_ret img [] h = tt
 each_ret img (f ∷ fs) h = (h.0.ret, each_ret img fs h.1)
 
 -- The stages behind the check, of an image that passed it.
 module _ (img : List ℕ) (q m : ℕ) (sound : check_of img ≡ Sound q m) (Q : Refusal → Type 0) where
-  pub analyse-said : AllowsFront img Q → Said Q (Any (Unit {0})) (analyse (contract_at img))
+  pub analyse_said : AllowsFront img Q → Said Q (Any (Unit {0})) (analyse (contract_at img))
   unfolding analyse
-  analyse-said A =
+  analyse_said A =
       let w = all_whole img q m sound in
-      analysis-said img Q A (contract_at img) (record { structs = (uncut img q m sound).types; rets = each_ret img (contract_at img).functions w }) (contract_at img).functions w
+      analysis_said img Q A (contract_at img) (record { structs = (uncut img q m sound).types; rets = each_ret img (contract_at img).functions w }) (contract_at img).functions w
 
-  ambiguous-said : AllowsFront img Q → Said Q (Any (Unit {0})) (clear (first_ambiguous_lem (contract_at img)))
-  ambiguous-said A = clear-said img (contract_at img) Q A (all_whole img q m sound)
+  ambiguous_said : AllowsFront img Q → Said Q (Any (Unit {0})) (clear (first_ambiguous_lem (contract_at img)))
+  ambiguous_said A = clear_said img (contract_at img) Q A (all_whole img q m sound)
 
-  pub generate-said : AllowsGeneration img Q → (R : Rules) → Said Q (Any Program) (generate R (contract_at img))
-  generate-said A R = generate-of img Q A R (contract_at img) (all_whole img q m sound)
+  pub generate_said : AllowsGeneration img Q → (R : Rules) → Said Q (Any Program) (generate R (contract_at img))
+  generate_said A R = generate_of img Q A R (contract_at img) (all_whole img q m sound)
 
 -- A contract is that of an image which passed the check.
 pub record Of (img : List ℕ) (C : Contract) : Type 0 where
@@ -168,22 +168,22 @@ pub record Of (img : List ℕ) (C : Contract) : Type 0 where
 
 -- All of them, one stage after the other.
 module _ (img : List ℕ) (Q : Refusal → Type 0) (f : AllowsFaults Q) where
-  pub analysed-said : (length img ≤ 65536 → AllowsFront img Q) → Said Q (Of img) (analysed img)
+  pub analysed_said : (length img ≤ 65536 → AllowsFront img Q) → Said Q (Of img) (analysed img)
   unfolding analysed
-  analysed-said A = said-then _ _ (check_said img Q f)
-      (λ u s. said-then _ _ (analyse-said img s.0 s.1 s.2 Q (A (uncut img s.0 s.1 s.2).bytes)) (λ v w. said_ok _ (record { is = refl; end = s.0; names = s.1; sound = s.2 })))
+  analysed_said A = said_then _ _ (check_said img Q f)
+      (λ u s. said_then _ _ (analyse_said img s.0 s.1 s.2 Q (A (uncut img s.0 s.1 s.2).bytes)) (λ v w. said_ok _ (record { is = refl; end = s.0; names = s.1; sound = s.2 })))
 
-  pub judged-said : (length img ≤ 65536 → AllowsFront img Q) → Said Q (Of img) (judged img)
+  pub judged_said : (length img ≤ 65536 → AllowsFront img Q) → Said Q (Of img) (judged img)
   unfolding judged
-  judged-said A = said-then _ _ (analysed-said A) (λ C s. said-then {O = Any (Unit {0})} _ _ (behind C s) (λ u v. said_ok C s))
+  judged_said A = said_then _ _ (analysed_said A) (λ C s. said_then {O = Any (Unit {0})} _ _ (behind C s) (λ u v. said_ok C s))
     where
       behind : (C : Contract) → Of img C → Said Q (Any (Unit {0})) (clear (first_ambiguous_lem C))
       behind C s =
           subst (λ (D : Contract). Said Q (Any (Unit {0})) (clear (first_ambiguous_lem D))) (sym s.is)
-          (ambiguous-said img s.end s.names s.sound Q (A (uncut img s.end s.names s.sound).bytes))
+          (ambiguous_said img s.end s.names s.sound Q (A (uncut img s.end s.names s.sound).bytes))
 
-  pub program-said : (R : Rules) → (length img ≤ 65536 → Allows img Q) → Said Q (Any Program) (program R img)
+  pub program_said : (R : Rules) → (length img ≤ 65536 → Allows img Q) → Said Q (Any Program) (program R img)
   unfolding program
-  program-said R A = said-then _ _ (judged-said (λ h. (A h).front))
+  program_said R A = said_then _ _ (judged_said (λ h. (A h).front))
       (λ C s. subst (λ (D : Contract). Said Q (Any Program) (generate R D)) (sym s.is)
-      (generate-said img s.end s.names s.sound Q (A (uncut img s.end s.names s.sound).bytes).generation R))
+      (generate_said img s.end s.names s.sound Q (A (uncut img s.end s.names s.sound).bytes).generation R))

@@ -14,7 +14,7 @@ use Rattle.rules.specs.Link.{Program, generate}
 use Rattle.rules.specs.Build.{program}
 use Rattle.rules.specs.Texts.{bytes, higher, digits, decimal, type_text, text_of}
 use Rattle.bounds.specs.Said.{Said, Any, ShortType, AllowsGeneration, Allows}
-use Rattle.bounds.specs.SaidProgram.{generate-said, program-said}
+use Rattle.bounds.specs.SaidProgram.{generate_said, program_said}
 
 -- A number has at most the digits that it is given.
 higher_few : (k : ℕ) (f : ℕ → List ℕ) → ((n : ℕ) → length (f n) ≤ k) → (q : ℕ) → length (higher f q) ≤ k
@@ -79,7 +79,7 @@ fits img = record {
 -- Every text of an image's refusals has 256 bytes at most.
 pub texts_fit : (R : Rules) (img : List ℕ) → Said Fits (Any Program) (program R img)
 unfolding text_of
-texts_fit R img = program-said img Fits (λ n p a b c. omega arith) R (λ h. fits img)
+texts_fit R img = program_said img Fits (λ n p a b c. omega arith) R (λ h. fits img)
 
 -- 000: the refusal of generation with a number, at a place: its name is the one that the record there starts with
 unfoldable pub generated_as : List ℕ → (number place : ℕ) → Refusal
@@ -108,4 +108,4 @@ own img = record {
 
 -- Whatever generation refuses of an image that passed the check.
 pub generated_own : (R : Rules) (img : List ℕ) (q m : ℕ) → check_of img ≡ Sound q m → Said (Own img) (Any Program) (generate R (contract_at img))
-generated_own R img q m e = generate-said img q m e (Own img) (own img) R
+generated_own R img q m e = generate_said img q m e (Own img) (own img) R

@@ -1,6 +1,6 @@
 -- The last function named main, by a loop from the first to the last.
 --     none_yet, next      its index among the first k; one function more
---     all-taken           all of them
+--     all_taken           all of them
 -- Assumes nothing.
 use mathlib.Core.Path.{◌≡◌, refl, sym, ap, ◌∙◌}
 use mathlib.Core.Bool.{Bool, true, false}
@@ -47,20 +47,20 @@ module _ (img : List ℕ) where
   fs = (contract_at img).functions
 
   -- 256 where there is none yet
-  unfoldable pub mainOf : ℕ → ℕ
-  mainOf k = or_first (last_index function_name 0 main (take k fs))
+  unfoldable pub main_of : ℕ → ℕ
+  main_of k = or_first (last_index function_name 0 main (take k fs))
 
-  pub none_yet : mainOf 0 ≡ 256
-  unfolding mainOf last_index or_first
+  pub none_yet : main_of 0 ≡ 256
+  unfolding main_of last_index or_first
   none_yet = refl
 
   count : length fs ≡ length (functions_in img)
   unfolding contract_at
   count = length-map (functions_in img) (function_at img)
 
-  pub all-taken : (k : ℕ) → length (functions_in img) ≤ k → mainOf k ≡ or_first (last_index function_name 0 main fs)
-  unfolding mainOf
-  all-taken k h = ap (λ (l : List Function). or_first (last_index function_name 0 main l)) (take_all k fs (omega (arith, count)))
+  pub all_taken : (k : ℕ) → length (functions_in img) ≤ k → main_of k ≡ or_first (last_index function_name 0 main fs)
+  unfolding main_of
+  all_taken k h = ap (λ (l : List Function). or_first (last_index function_name 0 main l)) (take_all k fs (omega (arith, count)))
 
   one_more : (k : ℕ) (b : Bool) → k < length (functions_in img) → eq_name (name_in img (get_or (functions_in img) k 0)) main ≡ b
       → last_index function_name 0 main (take (k + 1) fs) ≡ or_else (pick b (some k) none) (last_index function_name 0 main (take k fs))
@@ -79,8 +79,8 @@ module _ (img : List ℕ) where
   chosen o k true = refl
   chosen o k false = refl
 
-  pub next : (k p found r : ℕ) (b : Bool) → k < length (functions_in img) → p ≡ get_or (functions_in img) k 0 → b ≡ eq_name (name_in img p) main → found ≡ mainOf k → r ≡ pick b k found → r ≡ mainOf (k + 1)
-  unfolding mainOf
+  pub next : (k p found r : ℕ) (b : Bool) → k < length (functions_in img) → p ≡ get_or (functions_in img) k 0 → b ≡ eq_name (name_in img p) main → found ≡ main_of k → r ≡ pick b k found → r ≡ main_of (k + 1)
+  unfolding main_of
   next k p found r b h e q f g =
       g ∙ ap (pick b k) f
       ∙ sym (ap or_first (one_more k b h (ap (λ (x : ℕ). eq_name (name_in img x) main) (sym e) ∙ sym q)) ∙ chosen (last_index function_name 0 main (take k fs)) k b)

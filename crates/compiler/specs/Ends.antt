@@ -1,6 +1,6 @@
 -- How a build can end (01: What comes back): the room is looked at last, words before entries.
 --     Built      the whole answer: three numbers and every entry of both slices
---     no_program, no_room, no_table, all-fits      what `outcome` is
+--     no_program, no_room, no_table, all_fits      what `outcome` is
 --     refuses, accepts      what the answer is then
 -- Assumes nothing.
 use Rattle.std.specs.Prelude.{◌≡◌, List, ℕ, ◌/◌, ◌<◌, ◌≤◌, length}
@@ -31,9 +31,9 @@ module _ (R : Rules) (img : List ℕ) (n t : ℕ) where
   unfolding outcome ◌>>=◌ fits listed unless
   no_table P e g h = rw (e, le-ltb _ _ g, lt-ltb _ _ h) refl
 
-  pub all-fits : (P : Program) → program R img ≡ ok P → length P.words ≤ n → length P.table ≤ t / 3 → outcome R img n t ≡ ok P
+  pub all_fits : (P : Program) → program R img ≡ ok P → length P.words ≤ n → length P.table ≤ t / 3 → outcome R img n t ≡ ok P
   unfolding outcome ◌>>=◌ fits listed unless
-  all-fits P e g h = rw (e, le-ltb _ _ g, le-ltb _ _ h) refl
+  all_fits P e g h = rw (e, le-ltb _ _ g, le-ltb _ _ h) refl
 
 module _ (R : Rules) (img code table : List ℕ) where
   pub refuses : (q : Refusal) → outcome R img (length code) (length table) ≡ bad q → Built R img code table (refused q) (cleared code) (cleared table)

@@ -23,7 +23,7 @@ use Rattle.rules.specs.Link.{Built, Program, functions, with_main, generate}
 use Rattle.rules.specs.Lent.{over, spread}
 use Rattle.rules.specs.Build.{words_of, three_of}
 use Rattle.bounds.specs.Answers.{All, all_ok, all_bad, all_bind, all_next, from_ok}
-use Rattle.lent.specs.Over.{spread-append}
+use Rattle.lent.specs.Over.{spread_append}
 use Rattle.tables.specs.Listed.{functions_in}
 
 -- The first words of a table's functions.
@@ -103,10 +103,10 @@ module _ (img F : List ℕ) (T : List Entry) (m : Mirrors img (functions_in img)
   unfolding below spread
   rows zero h = refl
   rows (suc k) h =
-      spread-append (three img F) (below k) (k ∷ [])
+      spread_append (three img F) (below k) (k ∷ [])
       ∙ ap (λ (l : List ℕ). l ++ (three img F k ++ [])) (rows k (omega arith))
       ∙ ap (λ (l : List ℕ). spread three_of (take k T) ++ (l ++ [])) (row k h)
-      ∙ sym (spread-append three_of (take k T) (get_or T k blank ∷ []))
+      ∙ sym (spread_append three_of (take k T) (get_or T k blank ∷ []))
       ∙ ap (λ (l : List Entry). spread three_of l) (sym (take-suc T k blank h))
 
   pub rows_are : (n : ℕ) → n ≡ length T → spread (three img F) (below n) ≡ spread three_of T

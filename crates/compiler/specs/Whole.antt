@@ -1,7 +1,7 @@
 -- All of both slices after a build, said of whatever meets `Built` (01: What comes back).
---     refused-zero     a refusal other than 0: every number of both slices is zero
---     rest-lent        0: both are as lent past the words and past the entries of the contract's functions
---     no-top-bits      0: no word has top bits (02: P3)
+--     refused_zero     a refusal other than 0: every number of both slices is zero
+--     rest_lent        0: both are as lent past the words and past the entries of the contract's functions
+--     no_top_bits      0: no word has top bits (02: P3)
 -- Assumes nothing.
 use Rattle.std.specs.Prelude.{◌≡◌, ℕ, ◌*◌, ◌≤◌}
 use Rattle.std.proofs.Math.Path.{refl, sym, ap, subst}
@@ -30,17 +30,17 @@ unfolding three_of
 three e = refl
 
 module _ (R : Rules) (img code table : List ℕ) (a : Answer) (c t : List ℕ) (b : Built R img code table a c t) where
-  pub refused-zero : (a.refusal ≡ 0 → ⊥) → (c ≡ replicate (length code) 0) × (t ≡ replicate (length table) 0)
+  pub refused_zero : (a.refusal ≡ 0 → ⊥) → (c ≡ replicate (length code) 0) × (t ≡ replicate (length table) 0)
   unfolding build_of code_of table_of program_answer at_exit
-  refused-zero wrong = by (outcome R img (length code) (length table)) refl
+  refused_zero wrong = by (outcome R img (length code) (length table)) refl
     where
       by : (o : Res Program) → outcome R img (length code) (length table) ≡ o → (c ≡ replicate (length code) 0) × (t ≡ replicate (length table) 0)
       by (ok P) e = absurd (wrong (ap (λ (x : Answer). x.refusal) b.answer ∙ rw e refl))
       by (bad q) e = (b.words ∙ rw e (all_zero code), b.entries ∙ rw e (all_zero table))
 
-  pub rest-lent : a.refusal ≡ 0 → Rest a.count code c × Rest (3 * length (contract_at img).functions) table t
+  pub rest_lent : a.refusal ≡ 0 → Rest a.count code c × Rest (3 * length (contract_at img).functions) table t
   unfolding build_of code_of table_of program_answer at_exit words_of
-  rest-lent z = by (accepted R img code table (sym (ap (λ (x : Answer). x.refusal) b.answer) ∙ z))
+  rest_lent z = by (accepted R img code table (sym (ap (λ (x : Answer). x.refusal) b.answer) ∙ z))
     where
       by : (P : Program) × (outcome R img (length code) (length table) ≡ ok P) × Fitting R img (length code) (length table) P
           → Rest a.count code c × Rest (3 * length (contract_at img).functions) table t
@@ -55,9 +55,9 @@ module _ (R : Rules) (img code table : List ℕ) (a : Answer) (c t : List ℕ) (
             subst (λ (m : ℕ). Rest m table t) k (subst (λ (s : List ℕ). Rest (length (spread three_of P.table)) table s) t-is (rest_over (spread three_of P.table) table (omega (arith, k, l, f.table)))),
           )
 
-  pub no-top-bits : R.free ≤ 30 → a.refusal ≡ 0 → (i n : ℕ) → At (take a.count c) i n → top_of n ≡ 0
+  pub no_top_bits : R.free ≤ 30 → a.refusal ≡ 0 → (i n : ℕ) → At (take a.count c) i n → top_of n ≡ 0
   unfolding words_in
-  no-top-bits few z i n h = by (lent R img code table (sym (ap (λ (x : Answer). x.refusal) b.answer) ∙ z))
+  no_top_bits few z i n h = by (lent R img code table (sym (ap (λ (x : Answer). x.refusal) b.answer) ∙ z))
     where
       by : Lent R img code table → top_of n ≡ 0
       by l =

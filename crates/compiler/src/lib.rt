@@ -1,4 +1,6 @@
 // The public build (01: What comes back), of any image and any room.
+#![tactic(auto)]
+
 pub mod stages;
 pub mod table;
 

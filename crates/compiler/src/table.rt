@@ -2,7 +2,7 @@
 ghost use Rattle.std.specs.Prelude.{◌≡◌, [], ◌∷◌, ◌+◌, ◌*◌, ◌≤◌, length};
 ghost use Rattle.rules.specs.Read.{function_at, places_from};
 ghost use Rattle.rules.specs.Lent.{over, spread};
-ghost use Rattle.lent.specs.Over.{overAt};
+ghost use Rattle.lent.specs.Over.{over_at};
 ghost use Rattle.tables.specs.Listed.{Tabled, functions_in};
 ghost use Rattle.compiler.specs.Made.{three, below};
 
@@ -17,7 +17,7 @@ pub fn param_count(img: &[u8], f: usize) -> usize
 // Entry k.
 fn write(table: &mut [u64], k: usize, place: usize, first: usize, params: usize)
     requires { 3 * k + 3 ≤ length table.old }
-    ensures { table.new ≡ overAt (3 * k) (place ∷ first ∷ params ∷ []) table.old }
+    ensures { table.new ≡ over_at (3 * k) (place ∷ first ∷ params ∷ []) table.old }
 {
     let at = 3 * k;
     table[at] = place as u64;

@@ -1,6 +1,6 @@
 -- What a build over entries comes to, once all but the table is made (compiler: Leaves).
 --     Fitting      of an accepted build: the n functions are listed and have room, and filling the table gives the whole answer
---     accepted, refused-one      the two endings
+--     accepted, refused_one      the two endings
 -- Assumes nothing.
 use Rattle.std.specs.Prelude.{◌≡◌, refl, List, [], ◌∷◌, ◌++◌, ℕ, zero, suc, ◌/◌, ◌≤◌, length, replicate}
 use Rattle.std.proofs.Common.{sym, ap, subst, ◌∙◌, arith, ltb-false}
@@ -11,7 +11,7 @@ use Rattle.rules.specs.Link.{Program}
 use Rattle.rules.specs.Lent.{over, spread}
 use Rattle.rules.specs.Build.{program, fits, listed, outcome, three_of}
 use Rattle.bounds.specs.Answers.{All, from_ok, all_next, all_unless}
-use Rattle.lent.specs.Over.{spread-append}
+use Rattle.lent.specs.Over.{spread_append}
 use Rattle.tables.specs.Listed.{Tabled, functions_in}
 use Rattle.compiler.specs.Made.{three, below, mirrors_length, rows_are}
 use Rattle.compiler.specs.Stages.{Leaves, left, emptied}
@@ -37,10 +37,10 @@ rows_numbers : (img F : List ℕ) (n : ℕ) → numbers_of (entries_of img F n) 
 unfolding entries_of below spread
 rows_numbers img F zero = refl
 rows_numbers img F (suc n) =
-    spread-append numbers (entries_of img F n) (entry_of img F n ∷ [])
+    spread_append numbers (entries_of img F n) (entry_of img F n ∷ [])
     ∙ ap (λ (l : List ℕ). l ++ (numbers (entry_of img F n) ++ [])) (rows_numbers img F n)
     ∙ ap (λ (l : List ℕ). spread (three img F) (below n) ++ (l ++ [])) (one_row img F n)
-    ∙ sym (spread-append (three img F) (below n) (n ∷ []))
+    ∙ sym (spread_append (three img F) (below n) (n ∷ []))
 
 module _ (R : Rules) (img c : List ℕ) (ys : List Entry) (a : Answer) (c' F T : List ℕ) where
   pub record Fitting (n : ℕ) : Type 0 where
@@ -77,5 +77,5 @@ module _ (R : Rules) (img c : List ℕ) (ys : List Entry) (a : Answer) (c' F T :
   pub accepted : Left → a.refusal ≡ 0 → (n : ℕ) → (Tabled img T → n ≡ length (functions_in img)) → Fitting n
   accepted h = accepting (outcome R img (length c) (length (numbers_of ys))) refl (h (length (numbers_of ys)) (numbers_length ys))
 
-  pub refused-one : Left → (a.refusal ≡ 0 → ⊥) → Built R img c (numbers_of ys) a c' (numbers_of (replicate (length ys) blank))
-  refused-one h = refusing (outcome R img (length c) (length (numbers_of ys))) refl (h (length (numbers_of ys)) (numbers_length ys))
+  pub refused_one : Left → (a.refusal ≡ 0 → ⊥) → Built R img c (numbers_of ys) a c' (numbers_of (replicate (length ys) blank))
+  refused_one h = refusing (outcome R img (length c) (length (numbers_of ys))) refl (h (length (numbers_of ys)) (numbers_length ys))

@@ -8,7 +8,7 @@ use Rattle.std.specs.Prelude.{◌≡◌, refl, List, [], ◌∷◌, ℕ, zero, s
 use Rattle.std.proofs.Common.{sym, ap, ◌∙◌, arith}
 use Rattle.std.proofs.lemmas.List.{replicate-append-replicate, length-replicate}
 use Rattle.rules.specs.Lent.{over, cleared, spread}
-use Rattle.lent.specs.Over.{overAt, over-more}
+use Rattle.lent.specs.Over.{over_at, over_more}
 use Rattle.entries.specs.declared.Entry.{Entry}
 
 -- the entry of zeros
@@ -61,7 +61,7 @@ entries_over (e ∷ es) (x ∷ y ∷ []) = refl
 entries_over (e ∷ es) (x ∷ y ∷ z ∷ s) = ap {B = List Entry} (λ r. e ∷ r) (entries_over es s)
 
 -- putting an entry is laying its three numbers at its place
-pub numbers_set : (es : List Entry) (i : ℕ) (e : Entry) → numbers_of (set es i e) ≡ overAt (3 * i) (numbers e) (numbers_of es)
+pub numbers_set : (es : List Entry) (i : ℕ) (e : Entry) → numbers_of (set es i e) ≡ over_at (3 * i) (numbers e) (numbers_of es)
 unfolding spread
 numbers_set [] zero e = refl
 numbers_set [] (suc i) e = let q : 3 * suc i ≡ suc (suc (suc (3 * i))) = omega arith in rw q refl
@@ -91,7 +91,7 @@ numbers_blank (e ∷ es) = ap {B = List ℕ} (λ r. 0 ∷ 0 ∷ 0 ∷ r) (number
 pub clear_more : (i : ℕ) (t : List Entry) → set (over (replicate i blank) t) i blank ≡ over (replicate (i + 1) blank) t
 clear_more i t =
     ap (λ k. set (over (replicate i blank) t) k blank) (sym (length-replicate i blank))
-    ∙ over-more (replicate i blank) blank t
+    ∙ over_more (replicate i blank) blank t
     ∙ ap (λ (l : List Entry). over l t) (replicate-append-replicate i 1 blank)
 
 pub clear_all : (t : List Entry) → over (replicate (length t) blank) t ≡ replicate (length t) blank

@@ -6,7 +6,7 @@ use Rattle.std.specs.Prelude.{◌≡◌, refl, List, [], ◌∷◌, ◌++◌, �
 use Rattle.std.proofs.Common.{sym, ap, ◌∙◌, add-one, length-append}
 use Rattle.rules.specs.Read.{function_at}
 use Rattle.rules.specs.Lent.{over}
-use Rattle.lent.specs.Over.{over-more}
+use Rattle.lent.specs.Over.{over_more}
 use Rattle.tables.specs.Listed.{functions_in}
 use Rattle.entries.specs.declared.Entry.{Entry}
 
@@ -32,5 +32,5 @@ pub rows_more : (img F : List ℕ) (n : ℕ) (t : List Entry) → set (over (ent
 unfolding entries_of
 rows_more img F n t =
     ap (λ k. set (over (entries_of img F n) t) k (entry_of img F n)) (sym (rows_length img F n))
-    ∙ over-more (entries_of img F n) (entry_of img F n) t
+    ∙ over_more (entries_of img F n) (entry_of img F n) t
     ∙ ap (λ k. over (entries_of img F k) t) (sym (add-one n))

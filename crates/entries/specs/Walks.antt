@@ -14,7 +14,7 @@ use Rattle.compiler.specs.Ends.{Built}
 use Rattle.compiler.specs.Walks as flat
 use Rattle.entries.specs.declared.Entry.{Entry}
 use Rattle.entries.specs.Entries.{numbers, numbers_of}
-use Rattle.entries.specs.Whole.{rest-lent}
+use Rattle.entries.specs.Whole.{rest_lent}
 
 -- where a function's words end, with these entries behind it
 unfoldable pub ends : ℕ → List Entry → ℕ
@@ -42,7 +42,7 @@ spans_are (suc k) n (e ∷ es) h = rw (past_is k n es (omega arith), spans_are k
 pub walks : (R : Rules) → R.free ≤ 30 → (img code : List ℕ) (es : List Entry) (a : Answer) (c : List ℕ) (t : List Entry) → Built R img code (numbers_of es) a c (numbers_of t) → a.refusal ≡ 0
     → Demand3 (take a.count c) (spans a.count (take (length (contract_at img).functions) t))
 walks R few img code es a c t b z =
-    let (w, r) = rest-lent R img code es a c t b z in
+    let (w, r) = rest_lent R img code es a c t b z in
     let fits : length (contract_at img).functions ≤ length t = omega (arith, r.room, r.long) in
     subst (λ (T : List machine.Entry). Demand3 (take a.count c) T) (spans_are (length (contract_at img).functions) a.count t fits)
     (flat.walks R few img code (numbers_of es) a c (numbers_of t) b z)

@@ -1,6 +1,6 @@
 -- All of the code slice and of the entries after a build over entry structs (01: What comes back).
---     refused-zero     a refusal other than 0: every word is zero and every entry blank
---     rest-lent        0: both are as lent past the words and past the entries of the contract's functions
+--     refused_zero     a refusal other than 0: every word is zero and every entry blank
+--     rest_lent        0: both are as lent past the words and past the entries of the contract's functions
 -- Assumes nothing.
 use Rattle.std.specs.Prelude.{◌≡◌, refl, List, [], ◌∷◌, ℕ, zero, suc, ◌*◌, length, drop, replicate}
 use Rattle.std.proofs.Common.{sym, ◌∙◌, arith}
@@ -33,12 +33,12 @@ rest_entries k es fs r = record {
 }
 
 module _ (R : Rules) (img code : List ℕ) (es : List Entry) (a : Answer) (c : List ℕ) (t : List Entry) (b : Built R img code (numbers_of es) a c (numbers_of t)) where
-  pub refused-zero : (a.refusal ≡ 0 → ⊥) → (c ≡ replicate (length code) 0) × (t ≡ replicate (length es) blank)
-  refused-zero wrong =
-      let (w, n) = flat.refused-zero R img code (numbers_of es) a c (numbers_of t) b wrong in
+  pub refused_zero : (a.refusal ≡ 0 → ⊥) → (c ≡ replicate (length code) 0) × (t ≡ replicate (length es) blank)
+  refused_zero wrong =
+      let (w, n) = flat.refused_zero R img code (numbers_of es) a c (numbers_of t) b wrong in
       (w, numbers_one t (replicate (length es) blank) (n ∙ sym (all_zero (numbers_of es)) ∙ sym (numbers_blank es)))
 
-  pub rest-lent : a.refusal ≡ 0 → Rest a.count code c × Rest (length (contract_at img).functions) es t
-  rest-lent z =
-      let (w, n) = flat.rest-lent R img code (numbers_of es) a c (numbers_of t) b z in
+  pub rest_lent : a.refusal ≡ 0 → Rest a.count code c × Rest (length (contract_at img).functions) es t
+  rest_lent z =
+      let (w, n) = flat.rest_lent R img code (numbers_of es) a c (numbers_of t) b z in
       (w, rest_entries (length (contract_at img).functions) es t n)

@@ -10,7 +10,7 @@ use crate::Entry;
 use rules::Answer;
 
 // What a build leaves for the table: its answer, how many functions there are, where they stand, their first words.
-#[derive(Drop)]
+#[derive(Clone, Copy)]
 struct Made {
     answer: Answer,
     n: usize,

@@ -1,4 +1,6 @@
 // The function table as a lent slice of entry structs (01: What comes back). Every function over the slice is thin and proved by a walk of its MIR; what an entry holds is computed by value.
+#![tactic(auto)]
+
 ghost use Rattle.std.specs.Prelude.{◌≡◌, ◌≤◌, ◌<◌, length, get_or, set, replicate};
 ghost use Rattle.rules.specs.Read.{function_at};
 ghost use Rattle.rules.specs.Lent.{over};
@@ -8,7 +10,7 @@ ghost use Rattle.entries.specs.Rows.{entry_of, entries_of};
 
 pub mod build;
 
-#[derive(Drop)]
+#[derive(Clone, Copy)]
 pub struct Entry {
     pub place: u64,
     pub first: u64,

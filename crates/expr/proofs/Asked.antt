@@ -15,7 +15,7 @@ use Rattle.records.specs.Keys.{key_of, differ}
 use Rattle.tables.specs.declared.Found.{Found}
 use Rattle.tables.specs.declared.Found.TheVariants as found
 use Rattle.tables.specs.Listed.{Named, index_of, functions_in, storage_in}
-use Rattle.tables.specs.Carried.{function-index-is, storage-index-is}
+use Rattle.tables.specs.Carried.{function_index_is, storage_index_is}
 use Rattle.emit.specs.declared.St.{St}
 use Rattle.emit.specs.Ran.{Tally, Failed, or_first, raw}
 use Rattle.emit.specs.State.{tally, moved, Fails}
@@ -38,18 +38,18 @@ module _ (img s : List ℕ) (x number place : ℕ) (st r : St) (l : Local) where
     next = ap (λ (t : St). t.next) g;
   }
 
-  pub finds-not : reg_of l ≡ find (name_at img x) (scope_in img s) → l ≡ local.Missing → Fails st r number place → Finds img s x number place st r
+  pub finds_not : reg_of l ≡ find (name_at img x) (scope_in img s) → l ≡ local.Missing → Fails st r number place → Finds img s x number place st r
   unfolding reg_of known
-  finds-not e f g = record {
+  finds_not e f g = record {
     ran = λ C c q a b z. refuses (raw C) _ q (ap (known q) (sym e ∙ ap reg_of f)) z (as_refusal q number place a b g.failed);
     next = g.next;
   }
 
 module _ (img : List ℕ) (x : ℕ) (f : Found) where
-  pub has-slot : (number place : ℕ) (st : St) (i p : ℕ) → Named img x (storage_in img) f → f ≡ found.At i p → Slots img x number place st (record { st = st; slot = i })
+  pub has_slot : (number place : ℕ) (st : St) (i p : ℕ) → Named img x (storage_in img) f → f ≡ found.At i p → Slots img x number place st (record { st = st; slot = i })
   unfolding index_of known slot
-  has-slot number place st i p n e = record {
-    ran = λ R c q a b z. answered (raw (contract_at img)) _ (ap (known q) (sym (storage-index-is img x f n) ∙ ap index_of e)) refl;
+  has_slot number place st i p n e = record {
+    ran = λ R c q a b z. answered (raw (contract_at img)) _ (ap (known q) (sym (storage_index_is img x f n) ∙ ap index_of e)) refl;
     next = refl;
     reg = refl;
   }
@@ -57,18 +57,18 @@ module _ (img : List ℕ) (x : ℕ) (f : Found) where
   pub no_slot : (number place : ℕ) (st r : St) → Named img x (storage_in img) f → f ≡ found.Nothing → Fails st r number place → Slots img x number place st (record { st = r; slot = 0 })
   unfolding index_of known slot
   no_slot number place st r n e g = record {
-    ran = λ R c q a b z. refuses (raw (contract_at img)) _ q (ap (known q) (sym (storage-index-is img x f n) ∙ ap index_of e)) z (as_refusal q number place a b g.failed);
+    ran = λ R c q a b z. refuses (raw (contract_at img)) _ q (ap (known q) (sym (storage_index_is img x f n) ∙ ap index_of e)) z (as_refusal q number place a b g.failed);
     next = g.next;
     reg = g.reg;
   }
 
-  pub has-function : (i p : ℕ) → Named img x (functions_in img) f → f ≡ found.At i p → i ≡ function_in img (name_at img x)
+  pub has_function : (i p : ℕ) → Named img x (functions_in img) f → f ≡ found.At i p → i ≡ function_in img (name_at img x)
   unfolding index_of or_first
-  has-function i p n e = ap or_first (sym (ap index_of e) ∙ function-index-is img x f n)
+  has_function i p n e = ap or_first (sym (ap index_of e) ∙ function_index_is img x f n)
 
   pub no_function : Named img x (functions_in img) f → f ≡ found.Nothing → 256 ≡ function_in img (name_at img x)
   unfolding index_of or_first
-  no-function n e = ap or_first (sym (ap index_of e) ∙ function-index-is img x f n)
+  no-function n e = ap or_first (sym (ap index_of e) ∙ function_index_is img x f n)
 
 -- The builtins, by their names in turn.
 abbrev poseidon : Name
@@ -87,25 +87,25 @@ abbrev merkle : Name
 merkle = 118 ∷ 101 ∷ 114 ∷ 105 ∷ 102 ∷ 121 ∷ 95 ∷ 109 ∷ 101 ∷ 114 ∷ 107 ∷ 108 ∷ 101 ∷ 95 ∷ 112 ∷ 114 ∷ 111 ∷ 111 ∷ 102 ∷ []
 
 module _ (x : Name) where
-  pub is-poseidon : eq_name x poseidon ≡ true → some rules.Builtin.poseidon ≡ rules.builtin x
+  pub is_poseidon : eq_name x poseidon ≡ true → some rules.Builtin.poseidon ≡ rules.builtin x
   unfolding rules.builtin pick
-  is-poseidon a = rw a refl
+  is_poseidon a = rw a refl
 
-  pub is-sender : eq_name x poseidon ≡ false → eq_name x sender ≡ true → some rules.Builtin.sender ≡ rules.builtin x
+  pub is_sender : eq_name x poseidon ≡ false → eq_name x sender ≡ true → some rules.Builtin.sender ≡ rules.builtin x
   unfolding rules.builtin pick
-  is-sender a b = rw (a, b) refl
+  is_sender a b = rw (a, b) refl
 
-  pub is-nonce : eq_name x poseidon ≡ false → eq_name x sender ≡ false → eq_name x nonce ≡ true → some rules.Builtin.nonce ≡ rules.builtin x
+  pub is_nonce : eq_name x poseidon ≡ false → eq_name x sender ≡ false → eq_name x nonce ≡ true → some rules.Builtin.nonce ≡ rules.builtin x
   unfolding rules.builtin pick
-  is-nonce a b c = rw (a, b, c) refl
+  is_nonce a b c = rw (a, b, c) refl
 
   pub is_number : eq_name x poseidon ≡ false → eq_name x sender ≡ false → eq_name x nonce ≡ false → eq_name x number ≡ true → some rules.Builtin.block-number ≡ rules.builtin x
   unfolding rules.builtin pick
   is_number a b c d = rw (a, b, c, d) refl
 
-  pub is-merkle : eq_name x poseidon ≡ false → eq_name x sender ≡ false → eq_name x nonce ≡ false → eq_name x number ≡ false → eq_name x merkle ≡ true → some rules.Builtin.merkle ≡ rules.builtin x
+  pub is_merkle : eq_name x poseidon ≡ false → eq_name x sender ≡ false → eq_name x nonce ≡ false → eq_name x number ≡ false → eq_name x merkle ≡ true → some rules.Builtin.merkle ≡ rules.builtin x
   unfolding rules.builtin pick
-  is-merkle a b c d e = rw (a, b, c, d, e) refl
+  is_merkle a b c d e = rw (a, b, c, d, e) refl
 
   pub is_none : eq_name x poseidon ≡ false → eq_name x sender ≡ false → eq_name x nonce ≡ false → eq_name x number ≡ false → eq_name x merkle ≡ false → none ≡ rules.builtin x
   unfolding rules.builtin pick

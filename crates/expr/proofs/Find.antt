@@ -1,6 +1,6 @@
 -- The search of a scope, a name at a time, from the newest.
---     find-hit        the key and the name are x's
---     skip-name, skip-key     another name; another key, so another name, or one that does not count
+--     find_hit        the key and the name are x's
+--     skip_name, skip_key     another name; another key, so another name, or one that does not count
 --     find_none       no name is left
 -- Assumes nothing.
 use mathlib.Core.Path.{◌≡◌, refl, sym, ap, ◌∙◌}
@@ -29,21 +29,21 @@ unfolding find pick
 met nm r rest x key e h = rw (eq-eqb key (key_of nm) (e ∙ ap key_of (sym (name_eq nm x h)))) (rw h refl)
 
 module _ (img s : List ℕ) (x : Name) where
-  pub find-hit : (k : ℕ) → (k ≡ 0 → ⊥) → get_or s (2 * (k - 1) + 1) 0 ≡ key_of x → eq_name (named img s (k - 1)) x ≡ true
+  pub find_hit : (k : ℕ) → (k ≡ 0 → ⊥) → get_or s (2 * (k - 1) + 1) 0 ≡ key_of x → eq_name (named img s (k - 1)) x ≡ true
       → some (reg_no s (k - 1)) ≡ find x (scope_of img s k)
   unfolding scope_of
-  find-hit zero z e h = absurd (z refl)
-  find-hit (suc k) z e h = rw sub-one (sym (met (named img s k) (reg_no s k) (scope_of img s k) x (get_or s (2 * k + 1) 0) (rw sub-one at e) (rw sub-one at h)))
+  find_hit zero z e h = absurd (z refl)
+  find_hit (suc k) z e h = rw sub-one (sym (met (named img s k) (reg_no s k) (scope_of img s k) x (get_or s (2 * k + 1) 0) (rw sub-one at e) (rw sub-one at h)))
 
-  pub skip-name : (k : ℕ) → (k ≡ 0 → ⊥) → eq_name (named img s (k - 1)) x ≡ false → find x (scope_of img s k) ≡ find x (scope_of img s (k - 1))
+  pub skip_name : (k : ℕ) → (k ≡ 0 → ⊥) → eq_name (named img s (k - 1)) x ≡ false → find x (scope_of img s k) ≡ find x (scope_of img s (k - 1))
   unfolding scope_of
-  skip-name zero z h = absurd (z refl)
-  skip-name (suc k) z h = rw sub-one (passed _ (named img s k) (reg_no s k) (scope_of img s k) x (λ b. rw sub-one at h))
+  skip_name zero z h = absurd (z refl)
+  skip_name (suc k) z h = rw sub-one (passed _ (named img s k) (reg_no s k) (scope_of img s k) x (λ b. rw sub-one at h))
 
-  pub skip-key : (k : ℕ) → (k ≡ 0 → ⊥) → (get_or s (2 * (k - 1) + 1) 0 ≡ key_of x → ⊥) → find x (scope_of img s k) ≡ find x (scope_of img s (k - 1))
+  pub skip_key : (k : ℕ) → (k ≡ 0 → ⊥) → (get_or s (2 * (k - 1) + 1) 0 ≡ key_of x → ⊥) → find x (scope_of img s k) ≡ find x (scope_of img s (k - 1))
   unfolding scope_of
-  skip-key zero z h = absurd (z refl)
-  skip-key (suc k) z h = rw sub-one (passed _ (named img s k) (reg_no s k) (scope_of img s k) x
+  skip_key zero z h = absurd (z refl)
+  skip_key (suc k) z h = rw sub-one (passed _ (named img s k) (reg_no s k) (scope_of img s k) x
       (λ b. differ (named img s k) x (λ e. (rw sub-one at h) (eqb-true _ _ b ∙ e))))
 
   pub find_none : (k : ℕ) → k ≡ 0 → none ≡ find x (scope_of img s k)

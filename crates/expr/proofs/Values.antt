@@ -3,7 +3,7 @@
 --     regs_append, reg_of, argued_is, stored_is     registers of values
 --     arg_last, arg_before     one more value behind others
 --     pop_first     the registers from m + 1 down to 1
---     parts_first, parts-later, shift_none, shift-some, shift-more     the chunks of a number
+--     parts_first, parts_later, shift_none, shift_some, shift_more     the chunks of a number
 -- Assumes nothing.
 use mathlib.Core.Path.{◌≡◌, refl, sym, ap, ◌∙◌}
 use mathlib.Core.List.{List, [], ◌∷◌, ◌++◌, map, reverse, reverse_aux}
@@ -122,17 +122,17 @@ store_none a q i n p h = ap (λ (l : List ℕ). stored q i l p) (regs_none a i n
 
 -- one more value, by its number
 module _ (v : Several) (s : St) where
-  pub more-first : v.count ≡ 0 → record { st = s; count = v.count + 1; first = s.next; second = v.second } ≡ more v s
+  pub more_first : v.count ≡ 0 → record { st = s; count = v.count + 1; first = s.next; second = v.second } ≡ more v s
   unfolding pick
-  more-first e = rw e refl
+  more_first e = rw e refl
 
-  pub more-second : v.count ≡ 1 → record { st = s; count = v.count + 1; first = v.first; second = s.next } ≡ more v s
+  pub more_second : v.count ≡ 1 → record { st = s; count = v.count + 1; first = v.first; second = s.next } ≡ more v s
   unfolding pick
-  more-second e = rw e refl
+  more_second e = rw e refl
 
-  pub more-later : (v.count ≡ 0 → ⊥) → (v.count ≡ 1 → ⊥) → record { st = s; count = v.count + 1; first = v.first; second = v.second } ≡ more v s
+  pub more_later : (v.count ≡ 0 → ⊥) → (v.count ≡ 1 → ⊥) → record { st = s; count = v.count + 1; first = v.first; second = v.second } ≡ more v s
   unfolding pick
-  more-later a b = simp (ne_eqb _ _ a, ne_eqb _ _ b)
+  more_later a b = simp (ne_eqb _ _ a, ne_eqb _ _ b)
 
 -- the registers from k down to 1
 count_last : (a k : ℕ) → count a (suc k) ≡ count a k ++ ((a + k) ∷ [])
@@ -156,25 +156,25 @@ module _ (p r s t : ℕ) where
   parts_first zero cs h = absurd (h refl)
   parts_first (suc c) cs h = refl
 
-  pub parts-later : (c : ℕ) (cs : List ℕ) → c ≡ 0 → parts p r s t (c ∷ cs) ≡ parts p r s t cs
+  pub parts_later : (c : ℕ) (cs : List ℕ) → c ≡ 0 → parts p r s t (c ∷ cs) ≡ parts p r s t cs
   unfolding parts
-  parts-later zero cs h = refl
-  parts-later (suc c) cs h = absurd (omega (arith, h))
+  parts_later zero cs h = refl
+  parts_later (suc c) cs h = absurd (omega (arith, h))
 
   pub shift_none : (c : ℕ) → c ≡ 0 → shift_in p r s t (c ∷ []) ≡ emit p op.Mul r r s (Imm.pos 0) ∷ []
   unfolding shift_in
   shift_none zero h = refl
   shift_none (suc c) h = absurd (omega (arith, h))
 
-  pub shift-some : (c : ℕ) → (c ≡ 0 → ⊥) → shift_in p r s t (c ∷ []) ≡ emit p op.Mul r r s (Imm.pos 0) ∷ load p t c ∷ add p r r t ∷ []
+  pub shift_some : (c : ℕ) → (c ≡ 0 → ⊥) → shift_in p r s t (c ∷ []) ≡ emit p op.Mul r r s (Imm.pos 0) ∷ load p t c ∷ add p r r t ∷ []
   unfolding shift_in
-  shift-some zero h = absurd (h refl)
-  shift-some (suc c) h = refl
+  shift_some zero h = absurd (h refl)
+  shift_some (suc c) h = refl
 
-  pub shift-more : (c : ℕ) (cs : List ℕ) → shift_in p r s t (c ∷ cs) ≡ shift_in p r s t (c ∷ []) ++ shift_in p r s t cs
+  pub shift_more : (c : ℕ) (cs : List ℕ) → shift_in p r s t (c ∷ cs) ≡ shift_in p r s t (c ∷ []) ++ shift_in p r s t cs
   unfolding shift_in
-  shift-more zero cs = refl
-  shift-more (suc c) cs = refl
+  shift_more zero cs = refl
+  shift_more (suc c) cs = refl
 
 -- a byte that is no BinOp's
 above_five : (k : ℕ) → (k ≡ 0 → ⊥) → (k ≡ 1 → ⊥) → (k ≡ 2 → ⊥) → (k ≡ 3 → ⊥) → (k ≡ 4 → ⊥) → 5 ≤ k

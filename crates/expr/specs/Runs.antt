@@ -12,7 +12,7 @@ use native.Mathlib.Omega.{arith}
 use Rattle.std.proofs.Math.ListN.{length}
 use Rattle.isa.specs.declared.Opcode.TheVariants as op
 use Rattle.rules.specs.Lent.{spread, word_bytes}
-use Rattle.lent.specs.Over.{overAt, overAt-nil, overAt-first, overAt-past, length-overAt}
+use Rattle.lent.specs.Over.{over_at, over_at_nil, over_at_first, over_at_past, length_over_at}
 use Rattle.lent.specs.Words.{bytes_of, bytes_append}
 use Rattle.emit.specs.Ran.{word_of}
 
@@ -35,10 +35,10 @@ length_run w a (suc k) = ap suc (length_run w (suc a) k)
 
 -- Words from number n on, as numbers and as bytes.
 abbrev pub numbers : ℕ → List ℕ → List ℕ → List ℕ
-numbers n ws s = overAt n ws s
+numbers n ws s = over_at n ws s
 
 abbrev pub bytes : ℕ → List ℕ → List ℕ → List ℕ
-bytes n ws s = overAt (8 * n) (bytes_of ws) s
+bytes n ws s = over_at (8 * n) (bytes_of ws) s
 
 -- Of the words up to number e those before number j are laid; the next is number a of the run, and i are done.
 pub record Laying (lay : ℕ → List ℕ → List ℕ → List ℕ) (w : ℕ → ℕ) (n e a₀ : ℕ) (s₀ s : List ℕ) (j a i : ℕ) : Type 0 where
@@ -47,22 +47,22 @@ pub record Laying (lay : ℕ → List ℕ → List ℕ → List ℕ) (w : ℕ �
   pub left : lay j (run w a (e - j)) s ≡ lay n (run w a₀ (e - n)) s₀
 
 module _ (w : ℕ → ℕ) where
-  run-next : (a j e : ℕ) → j < e → run w a (e - j) ≡ w a ∷ run w (a + 1) (e - (j + 1))
+  run_next : (a j e : ℕ) → j < e → run w a (e - j) ≡ w a ∷ run w (a + 1) (e - (j + 1))
   unfolding run
-  run-next a j e h =
+  run_next a j e h =
       let f : e - j ≡ suc (e - (j + 1)) = omega arith in
       let g : suc a ≡ a + 1 = omega arith in
       ap (λ (k : ℕ). run w a k) f ∙ ap (λ (b : ℕ). w a ∷ run w b (e - (j + 1))) g
 
-  numbers-past : (a m j : ℕ) (s : List ℕ) → (0 < m → length s ≤ j) → numbers j (run w a m) s ≡ s
+  numbers_past : (a m j : ℕ) (s : List ℕ) → (0 < m → length s ≤ j) → numbers j (run w a m) s ≡ s
   unfolding run
-  numbers-past a zero j s h = overAt-nil j s
-  numbers-past a (suc m) j s h = overAt-past j _ s (h (omega arith))
+  numbers_past a zero j s h = over_at_nil j s
+  numbers_past a (suc m) j s h = over_at_past j _ s (h (omega arith))
 
   bytes_past : (a m j : ℕ) (s : List ℕ) → (0 < m → length s ≤ 8 * j) → bytes j (run w a m) s ≡ s
   unfolding run spread
-  bytes_past a zero j s h = overAt-nil (8 * j) s
-  bytes_past a (suc m) j s h = overAt-past (8 * j) _ s (h (omega arith))
+  bytes_past a zero j s h = over_at_nil (8 * j) s
+  bytes_past a (suc m) j s h = over_at_past (8 * j) _ s (h (omega arith))
 
   module _ (n e a₀ : ℕ) (s₀ : List ℕ) where
     pub begins : (lay : ℕ → List ℕ → List ℕ → List ℕ) → Laying lay w n e a₀ s₀ s₀ n a₀ 0
@@ -74,31 +74,31 @@ module _ (w : ℕ → ℕ) where
         room = length-set s j x ∙ l.room;
         place = omega (arith, l.place);
         left = ap (λ (y : ℕ). numbers (j + 1) (run w (a + 1) (e - (j + 1))) (set s j y)) f
-            ∙ sym (overAt-first j (w a) (run w (a + 1) (e - (j + 1))) s)
-            ∙ ap (λ (ws : List ℕ). numbers j ws s) (sym (run-next a j e h))
+            ∙ sym (over_at_first j (w a) (run w (a + 1) (e - (j + 1))) s)
+            ∙ ap (λ (ws : List ℕ). numbers j ws s) (sym (run_next a j e h))
             ∙ l.left;
       }
 
-      pub bytes-go : {t : List ℕ} → Laying bytes w n e a₀ s₀ s j a i → j < e → x ≡ w a → t ≡ overAt (8 * j) (word_bytes x) s → Laying bytes w n e a₀ s₀ t (j + 1) (a + 1) (i + 1)
+      pub bytes-go : {t : List ℕ} → Laying bytes w n e a₀ s₀ s j a i → j < e → x ≡ w a → t ≡ over_at (8 * j) (word_bytes x) s → Laying bytes w n e a₀ s₀ t (j + 1) (a + 1) (i + 1)
       unfolding spread word_bytes
       bytes-go l h f g = record {
-        room = ap length g ∙ length-overAt (8 * j) (word_bytes x) s ∙ l.room;
+        room = ap length g ∙ length_over_at (8 * j) (word_bytes x) s ∙ l.room;
         place = omega (arith, l.place);
-        left = ap (bytes (j + 1) (run w (a + 1) (e - (j + 1)))) (g ∙ ap (λ (y : ℕ). overAt (8 * j) (word_bytes y) s) f)
+        left = ap (bytes (j + 1) (run w (a + 1) (e - (j + 1)))) (g ∙ ap (λ (y : ℕ). over_at (8 * j) (word_bytes y) s) f)
             ∙ bytes_append j (w a ∷ []) (run w (a + 1) (e - (j + 1))) s
-            ∙ ap (λ (ws : List ℕ). bytes j ws s) (sym (run-next a j e h))
+            ∙ ap (λ (ws : List ℕ). bytes j ws s) (sym (run_next a j e h))
             ∙ l.left;
       }
 
     module _ {s : List ℕ} {j a i : ℕ} where
       -- as far as the words go, or the slice
       pub numbers-end : Laying numbers w n e a₀ s₀ s j a i → min e (length s₀) ≤ j → s ≡ numbers n (run w a₀ (e - n)) s₀
-      numbers-end l h = sym (numbers-past a (e - j) j s (λ z. omega (arith, z, h, l.room))) ∙ l.left
+      numbers-end l h = sym (numbers_past a (e - j) j s (λ z. omega (arith, z, h, l.room))) ∙ l.left
 
       pub bytes-end : Laying bytes w n e a₀ s₀ s j a i → e ≤ j → s ≡ bytes n (run w a₀ (e - n)) s₀
       bytes-end l h = sym (bytes_past a (e - j) j s (λ z. omega (arith, z, h))) ∙ l.left
 
-      pub bytes-last : {t : List ℕ} {x : ℕ} → Laying bytes w n e a₀ s₀ s j a i → min e (length s₀ / 8) ≤ j → j < e → x ≡ w a → t ≡ overAt (8 * j) (word_bytes x) s → t ≡ bytes n (run w a₀ (e - n)) s₀
+      pub bytes-last : {t : List ℕ} {x : ℕ} → Laying bytes w n e a₀ s₀ s j a i → min e (length s₀ / 8) ≤ j → j < e → x ≡ w a → t ≡ over_at (8 * j) (word_bytes x) s → t ≡ bytes n (run w a₀ (e - n)) s₀
       bytes-last {t} l m h f g =
           let k = bytes-go l h f g in
           sym (bytes_past (a + 1) (e - (j + 1)) (j + 1) t (λ z. omega (arith, m, h, k.room))) ∙ k.left

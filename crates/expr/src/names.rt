@@ -14,13 +14,13 @@ ghost use Rattle.expr.specs.Names.{reg_of, Unknown, builtin_of, function_in};
 
 use tables::Found;
 
-#[derive(Drop)]
+#[derive(Clone, Copy)]
 pub enum Local {
     Reg(u64),
     Missing,
 }
 
-#[derive(Drop)]
+#[derive(Clone, Copy)]
 pub enum Builtin {
     Poseidon,
     Sender,

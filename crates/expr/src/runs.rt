@@ -1,7 +1,7 @@
 // Runs of Push and Pop as plain stores: the words from number n up to `end`, into one sink as far as it goes. Of the bytes the last
 // word may fit in part only.
 ghost use Rattle.std.specs.Prelude.{◌≡◌, ◌+◌, ◌-◌, ◌*◌, ◌≤◌};
-ghost use Rattle.lent.specs.Over.{overAt};
+ghost use Rattle.lent.specs.Over.{over_at};
 ghost use Rattle.lent.specs.Words.{bytes_of};
 ghost use Rattle.expr.specs.Runs.{run, pushes, pops};
 
@@ -9,7 +9,7 @@ use isa::Opcode;
 
 // Push of the registers 1, 2, .., as numbers
 pub fn push_numbers(code: &mut [u64], n: usize, end: usize)
-    ensures { code.new ≡ overAt n (run pushes 1 (end - n)) code.old }
+    ensures { code.new ≡ over_at n (run pushes 1 (end - n)) code.old }
 {
     let stop = emit::least(end, code.len());
     let mut j = n;
@@ -23,7 +23,7 @@ pub fn push_numbers(code: &mut [u64], n: usize, end: usize)
 
 // The same as bytes
 pub fn push_bytes(bytes: &mut [u8], n: usize, end: usize)
-    ensures { bytes.new ≡ overAt (8 * n) (bytes_of (run pushes 1 (end - n))) bytes.old }
+    ensures { bytes.new ≡ over_at (8 * n) (bytes_of (run pushes 1 (end - n))) bytes.old }
 {
     let stop = emit::least(end, bytes.len() / 8);
     let mut j = n;
@@ -41,7 +41,7 @@ pub fn push_bytes(bytes: &mut [u8], n: usize, end: usize)
 // Pop of the registers k, k - 1, .., as numbers
 pub fn pop_numbers(code: &mut [u64], n: usize, end: usize, k: u64)
     requires { end ≤ n + k }
-    ensures { code.new ≡ overAt n (run (pops k) 0 (end - n)) code.old }
+    ensures { code.new ≡ over_at n (run (pops k) 0 (end - n)) code.old }
 {
     let stop = emit::least(end, code.len());
     let mut j = n;
@@ -56,7 +56,7 @@ pub fn pop_numbers(code: &mut [u64], n: usize, end: usize, k: u64)
 // The same as bytes
 pub fn pop_bytes(bytes: &mut [u8], n: usize, end: usize, k: u64)
     requires { end ≤ n + k }
-    ensures { bytes.new ≡ overAt (8 * n) (bytes_of (run (pops k) 0 (end - n))) bytes.old }
+    ensures { bytes.new ≡ over_at (8 * n) (bytes_of (run (pops k) 0 (end - n))) bytes.old }
 {
     let stop = emit::least(end, bytes.len() / 8);
     let mut j = n;

@@ -1,5 +1,5 @@
 -- Which structs are kept: those after which no other has their name.
---     newest, newest-none     the look-up of a struct's own name tells
+--     newest, newest_none     the look-up of a struct's own name tells
 -- Assumes nothing.
 use mathlib.Core.Bool.{Bool, true, false, not}
 use mathlib.Core.List.{List, [], ◌∷◌, map}
@@ -106,5 +106,5 @@ module _ (img : List ℕ) (i x : ℕ) (h : i < length (structs_in img)) (own : x
     );
   }
 
-  pub newest-none : none ≡ last_index (name_in img) 0 (name_at img x) (structs_in img) → ⊥
-  newest-none q = there later i (rw splits at q)
+  pub newest_none : none ≡ last_index (name_in img) 0 (name_at img x) (structs_in img) → ⊥
+  newest_none q = there later i (rw splits at q)

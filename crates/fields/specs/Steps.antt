@@ -10,32 +10,32 @@ use Rattle.rules.specs.Tables.{or_else, first_index}
 use Rattle.rules.specs.Tree.{Field}
 use Rattle.rules.specs.Read.{places_from, name_in, field_at, contract_at}
 use Rattle.rules.specs.Layout.{layouts, positions}
-use Rattle.records.specs.Places.{places-zero, places-end, places-more}
+use Rattle.records.specs.Places.{places_zero, places_end, places_more}
 use Rattle.tables.specs.Listed.{structs_in}
 use Rattle.fields.specs.Spots.{positions_from}
 
 -- The Fields from place p and position n on, m in all at most.
 module _ (img : List ℕ) (x : Name) (m n p e : ℕ) where
   -- m were read: the field is none of the rest.
-  pub field-zero : m ≤ n → none ≡ first_index (λ (f : Field). f.name) n x (map (field_at img) (places_from (m - n) img p e))
+  pub field_zero : m ≤ n → none ≡ first_index (λ (f : Field). f.name) n x (map (field_at img) (places_from (m - n) img p e))
   unfolding first_index
-  field-zero h = rw (places-zero img (m - n) p e (omega arith))
+  field_zero h = rw (places_zero img (m - n) p e (omega arith))
 
   -- The List ends: the same.
   pub field_end : e ≤ p → none ≡ first_index (λ (f : Field). f.name) n x (map (field_at img) (places_from (m - n) img p e))
   unfolding first_index
-  field_end h = rw (places-end img (m - n) p e h)
+  field_end h = rw (places_end img (m - n) p e h)
 
   -- The Field at p has the name.
-  pub field-here : n < m → p < e → eq_name (name_in img p) x ≡ true → some n ≡ first_index (λ (f : Field). f.name) n x (map (field_at img) (places_from (m - n) img p e))
+  pub field_here : n < m → p < e → eq_name (name_in img p) x ≡ true → some n ≡ first_index (λ (f : Field). f.name) n x (map (field_at img) (places_from (m - n) img p e))
   unfolding first_index field_at or_else pick
-  field-here h l q = rw (places-more img (m - n) p e (λ z. omega arith) l, q)
+  field_here h l q = rw (places_more img (m - n) p e (λ z. omega arith) l, q)
 
   -- It has another.
   pub field_next : n < m → p < e → eq_name (name_in img p) x ≡ false
       → first_index (λ (f : Field). f.name) n x (map (field_at img) (places_from (m - n) img p e)) ≡ first_index (λ (f : Field). f.name) (n + 1) x (map (field_at img) (places_from (m - (n + 1)) img (after img p) e))
   unfolding first_index field_at or_else pick
-  field_next h l q = let z : m - (n + 1) ≡ m - n - 1 = omega arith in rw (z, places-more img (m - n) p e (λ y. omega arith) l, q, add-one)
+  field_next h l q = let z : m - (n + 1) ≡ m - n - 1 = omega arith in rw (z, places_more img (m - n) p e (λ y. omega arith) l, q, add-one)
 
 module _ (img : List ℕ) (x : Name) where
   -- The structs from the first on are all of them.

@@ -1,4 +1,6 @@
 // Where a field stands in the structs of a contract. A later struct replaces an earlier one of its name (000: struct_layouts).
+#![tactic(auto)]
+
 ghost use Rattle.std.specs.Prelude.{◌≡◌, ◌<◌, length, get_or};
 ghost use Rattle.rules.specs.Bytes.{name_at, inside};
 ghost use Rattle.rules.specs.Read.{second, contract_at};
@@ -11,7 +13,7 @@ use notes::Note;
 use tables::Found;
 
 // The position of a field in its struct.
-#[derive(Drop)]
+#[derive(Clone, Copy)]
 pub enum Spot {
     At(usize),
     Nowhere,

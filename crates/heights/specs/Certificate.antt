@@ -35,9 +35,9 @@ module _ (T : List Entry) (apart : Apart T) (H : ℕ → ℕ → Type 0) where
   at h p q = subst₂ H (sym p) (sym q) h
 
   -- The certificate's call and the path's are of one function.
-  same-call : (i x : ℕ) (d : Imm) (r : Right T H i x d Kind.calls) (e t : ℕ) → Lands i d e → Starts T e t → r.1 ≡ t
+  same_call : (i x : ℕ) (d : Imm) (r : Right T H i x d Kind.calls) (e t : ℕ) → Lands i d e → Starts T e t → r.1 ≡ t
   unfolding Apart
-  same-call i x d r e t l s = apart e r.1 t (subst (λ (a : ℕ). Starts T a r.1) (lands_one i d r.0 e r.3 l) r.4) s
+  same_call i x d r e t l s = apart e r.1 t (subst (λ (a : ℕ). Starts T a r.1) (lands_one i d r.0 e r.3 l) r.4) s
 
   -- Where the path goes on, the map has it.
   goes : (i x : ℕ) (d : Imm) (y : Way) (k : Kind) → Right T H i x d k → (t g j : ℕ) → Moves T i d y k t g j
@@ -48,7 +48,7 @@ module _ (T : List Entry) (apart : Apart T) (H : ℕ → ℕ → Type 0) where
   goes i x d y Kind.jumps r t g j m rest e = at r.2 (lands_one i d j r.0 m.2 r.1) (omega arith)
   goes i x d Way.jump Kind.forks r t g j m rest e = at r.2 (lands_one i d j r.0 m.2 r.1) (omega arith)
   goes i x d Way.pass Kind.forks r t g j m rest e = at r.3 m.2 (omega arith)
-  goes i x d y Kind.calls r t g j m rest e = let same : r.1 ≡ t = same-call i x d r m.0 t m.1 m.2 in at r.6 m.4 (omega arith)
+  goes i x d y Kind.calls r t g j m rest e = let same : r.1 ≡ t = same_call i x d r m.0 t m.1 m.2 in at r.6 m.4 (omega arith)
   goes i x d y Kind.ends r t g j m rest e = absurd m
   goes i x d y Kind.stuck r t g j m rest e = absurd m
 
@@ -60,7 +60,7 @@ module _ (T : List Entry) (apart : Apart T) (H : ℕ → ℕ → Type 0) where
   takes i x d y Kind.jumps r t g j m = omega arith
   takes i x d Way.jump Kind.forks r t g j m = omega arith
   takes i x d Way.pass Kind.forks r t g j m = omega arith
-  takes i x d y Kind.calls r t g j m = let same : r.1 ≡ t = same-call i x d r m.0 t m.1 m.2 in omega arith
+  takes i x d y Kind.calls r t g j m = let same : r.1 ≡ t = same_call i x d r m.0 t m.1 m.2 in omega arith
   takes i x d y Kind.ends r t g j m = absurd m
   takes i x d y Kind.stuck r t g j m = absurd m
 
@@ -120,10 +120,10 @@ module _ (C : List Word) (T : List Entry) (apart : Apart T) (f : Entry) (H : ℕ
       r = c.right i x h
 
   -- Every path is on the map.
-  on-map : {i h : ℕ} → Path C T f i h → H i h
-  on-map start = c.begins
-  on-map (step {i} {h} p w a y t g j m rest e) =
-      goes T apart H i h w.imm y (kind w.op) (judged i h (on-map p) w a) t g j m rest e
+  on_map : {i h : ℕ} → Path C T f i h → H i h
+  on_map start = c.begins
+  on_map (step {i} {h} p w a y t g j m rest e) =
+      goes T apart H i h w.imm y (kind w.op) (judged i h (on_map p) w a) t g j m rest e
 
   stops_at : (i h : ℕ) (y : Way) → (w : Word) × At C i w × Right T H i h w.imm (kind w.op)
       → (w : Word) × At C i w × (((w.op ≡ op.Ret) × (h ≡ 2)) ⊎ ((t : ℕ) × (g : ℕ) × (j : ℕ) × Moves T i w.imm y (kind w.op) t g j))
@@ -132,10 +132,10 @@ module _ (C : List Word) (T : List Entry) (apart : Apart T) (f : Entry) (H : ℕ
   -- A certificate gives the law.
   pub heights : Heights C T f
   heights = record {
-    stays = λ i h p. c.inside i h (on-map p);
-    enough = λ i h p w a y t g j m. takes T apart H i h w.imm y (kind w.op) (judged i h (on-map p) w a) t g j m;
-    one_height = λ i h h' p q. c.single i h h' (on-map p) (on-map q);
-    stops = λ i h p y. stops_at i h y (c.right i h (on-map p));
+    stays = λ i h p. c.inside i h (on_map p);
+    enough = λ i h p w a y t g j m. takes T apart H i h w.imm y (kind w.op) (judged i h (on_map p) w a) t g j m;
+    one_height = λ i h h' p q. c.single i h h' (on_map p) (on_map q);
+    stops = λ i h p y. stops_at i h y (c.right i h (on_map p));
   }
 
 -- The other way round: where the law holds, the heights that paths reach are a certificate. So a checker that looks for
@@ -188,8 +188,8 @@ module _ (C : List Word) (T : List Entry) (f : Entry) (law : Heights C T f) wher
     by-choice (inr (t, g, j, m)) (inr (t', g', j', m')) = right-from (kind w.op) refl t g j m t' g' j' m'
 
   -- The law gives a certificate.
-  pub certified-by-law : Certified C T f (Path C T f)
-  certified-by-law = record {
+  pub certified_by_law : Certified C T f (Path C T f)
+  certified_by_law = record {
     inside = law.stays;
     single = λ i x y p q. law.one_height i x y p q;
     begins = start;

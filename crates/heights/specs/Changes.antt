@@ -42,16 +42,16 @@ Changes Call t g = g ≡ 1
 Changes Ret t g = ⊥
 
 module _ (T : List Entry) (i : ℕ) (d : Imm) where
-  kind-changes : (y : Way) (k : Kind) (t g j : ℕ) → Moves T i d y k t g j → Changes (change_of k) t g
-  kind-changes y Kind.plain t g j m = omega (arith, m.0, m.1)
-  kind-changes y Kind.pushes t g j m = omega (arith, m.0, m.1)
-  kind-changes y Kind.pops t g j m = omega (arith, m.0, m.1)
-  kind-changes y Kind.jumps t g j m = omega (arith, m.0, m.1)
-  kind-changes Way.jump Kind.forks t g j m = omega (arith, m.0, m.1)
-  kind-changes Way.pass Kind.forks t g j m = omega (arith, m.0, m.1)
-  kind-changes y Kind.calls t g j m = m.3
-  kind-changes y Kind.ends t g j m = absurd m
-  kind-changes y Kind.stuck t g j m = absurd m
+  kind_changes : (y : Way) (k : Kind) (t g j : ℕ) → Moves T i d y k t g j → Changes (change_of k) t g
+  kind_changes y Kind.plain t g j m = omega (arith, m.0, m.1)
+  kind_changes y Kind.pushes t g j m = omega (arith, m.0, m.1)
+  kind_changes y Kind.pops t g j m = omega (arith, m.0, m.1)
+  kind_changes y Kind.jumps t g j m = omega (arith, m.0, m.1)
+  kind_changes Way.jump Kind.forks t g j m = omega (arith, m.0, m.1)
+  kind_changes Way.pass Kind.forks t g j m = omega (arith, m.0, m.1)
+  kind_changes y Kind.calls t g j m = m.3
+  kind_changes y Kind.ends t g j m = absurd m
+  kind_changes y Kind.stuck t g j m = absurd m
 
 -- 02: P7: every step of a path changes the height as a ruled table says of the word's low byte.
 pub step_changes : (f : List ℕ) → Ruled f → (T : List Entry) (i n : ℕ) (y : Way) (t g j : ℕ) → Moves T i (read n).imm y (kind (read n).op) t g j
@@ -64,4 +64,4 @@ step_changes f ruled T i n y t g j m = by (decode_any_of n) refl
     by (fields.Known v) e =
         let s = subst (λ (x : Fields). Moves T i (word_in x).imm y (kind (word_in x).op) t g j) e m in
         let h : (fact_in (get_or f (n % 2 ^ 8) 0)).height ≡ change_of (kind v.opcode) = ap (λ (a : Fact). a.height) (row_read f ruled n v e) ∙ row_kind v.opcode in
-        subst (λ (c : Height). Changes c t g) (sym h) (kind-changes T i _ y (kind v.opcode) t g j s)
+        subst (λ (c : Height). Changes c t g) (sym h) (kind_changes T i _ y (kind v.opcode) t g j s)

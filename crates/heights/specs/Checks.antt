@@ -123,14 +123,14 @@ module _ (C : Contract) where
       stmts-fit (Stmts.more x xs) Γ = all_bind (stmt C ret x Γ) _ (stmt-fits x Γ) (λ Δ px. all_map (stmts-fit xs Δ) (λ u pxs. (px, pxs)))
 
   -- Function by function.
-  bodies-fit : (fs : List Function) → All (λ u. BodiesFit takes fs) (functions C fs)
+  bodies_fit : (fs : List Function) → All (λ u. BodiesFit takes fs) (functions C fs)
   unfolding functions function BodiesFit
-  bodies-fit [] = all_ok _ tt
-  bodies-fit (f ∷ fs) =
+  bodies_fit [] = all_ok _ tt
+  bodies_fit (f ∷ fs) =
       all_bind (function C f) _ (all_bind (stmts C _ f.body _) _ (stmts-fit _ f.body _) (λ Γ q. all_ok _ q)) (λ u q.
-      all_map (bodies-fit fs) (λ v r. (q, r)))
+      all_map (bodies_fit fs) (λ v r. (q, r)))
 
 -- 001 passed: each call in each body passes what its function takes.
 pub analysis_fits : (C : Contract) → All (λ u. BodiesFit (Takes C.functions) C.functions) (analyse C)
 unfolding analyse
-analysis_fits C = bodies-fit C C.functions
+analysis_fits C = bodies_fit C C.functions

@@ -11,7 +11,7 @@ use Rattle.rules.specs.Emit.{Rules}
 use Rattle.rules.specs.Link.{Program}
 use Rattle.rules.specs.Build.{program, words_of, build_of, Demand3Of}
 use Rattle.bounds.specs.Programs.{program_bounded}
-use Rattle.heights.specs.Law.{Next, Stopped, Home, goes_on, alike-heights, alike_home}
+use Rattle.heights.specs.Law.{Next, Stopped, Home, goes_on, alike_heights, alike_home}
 use Rattle.heights.specs.Placed.{mirrored}
 use Rattle.heights.specs.Theorem.{obeyed}
 use Rattle.heights.specs.Slices.{listed_alike, listed_at, listed_from, words_in, table_in, Lent, lent}
@@ -66,7 +66,7 @@ demand_3_lent R few img code table z k d a = from (lent R img code table z)
     from l =
         let (e, at-e, like) = listed_from l.P.table (table_in R img code table) l.entries k d a in
         subst (λ (ws : List ℕ). Heights (map read ws) (table_in R img code table) d) (sym l.words)
-        (alike-heights (map read (words_of l.P)) l.P.table (table_in R img code table) (listed_alike l.P.table (table_in R img code table) l.entries) e d like (demand_3 R few img l.P l.is k e at-e))
+        (alike_heights (map read (words_of l.P)) l.P.table (table_in R img code table) (listed_alike l.P.table (table_in R img code table) l.entries) e d like (demand_3 R few img l.P l.is k e at-e))
 
 -- And each function of the contract has its entry there, at its own index, and is so walked.
 pub each_lent : (R : Rules) → R.free ≤ 30 → (img code table : List ℕ) → (build_of R img code table).refusal ≡ 0 → (k : ℕ) (f : Function) → At (contract_at img).functions k f

@@ -36,11 +36,11 @@ ends_only Kind.stuck d e = cc
 
 module _ (M : Reading) where
   -- What a piece's soundness says at one of its words.
-  pub sound-at : (H : Place M) (es : List M.Note) (i k : ℕ) (m : List (Noted M)) → Sounds M H i m → (j : ℕ) (s : M.State) → j < length m → Holds M (tops M m es) j s → k ≡ i + j
+  pub sound_at : (H : Place M) (es : List M.Note) (i k : ℕ) (m : List (Noted M)) → Sounds M H i m → (j : ℕ) (s : M.State) → j < length m → Holds M (tops M m es) j s → k ≡ i + j
       → (o : Open) × At (map (λ (p : Noted M). p.1) m) j o × Goes M H k s o (flow o)
-  sound-at H es i k [] r j s l a e = absurd (omega arith)
-  sound-at H es i k (p ∷ m) r zero s l a e = (p.1, refl, subst (λ (n : ℕ). Goes M H n s p.1 (flow p.1)) (omega arith) (r.0 s a))
-  sound-at H es i k (p ∷ m) r (suc j) s l a e = sound-at H es (suc i) k m r.1 j s (omega arith) a (omega arith)
+  sound_at H es i k [] r j s l a e = absurd (omega arith)
+  sound_at H es i k (p ∷ m) r zero s l a e = (p.1, refl, subst (λ (n : ℕ). Goes M H n s p.1 (flow p.1)) (omega arith) (r.0 s a))
+  sound_at H es i k (p ∷ m) r (suc j) s l a e = sound_at H es (suc i) k m r.1 j s (omega arith) a (omega arith)
 
   -- Where nothing goes on behind a piece, its notes end with its words.
   pub short : (m : List (Noted M)) (j : ℕ) (s : M.State) → Holds M (tops M m []) j s → j < length m
@@ -56,17 +56,17 @@ single_note t (a ∷ l) (suc i) x y p q = single_note t l i x y p q
 
 module _ (fs : List Function) (T : List Entry) (mirrors : Mirrors fs T) where
   -- A word that goes right as a height is right by the table, once patched.
-  right-word : (t : Name → ℕ → Type 0) (H : ℕ → ℕ → Type 0) (i x p : ℕ) (b : Bool) (w : Word) (k : Kind) → kind w.op ≡ k
+  right_word : (t : Name → ℕ → Type 0) (H : ℕ → ℕ → Type 0) (i x p : ℕ) (b : Bool) (w : Word) (k : Kind) → kind w.op ≡ k
       → Goes (height t) H i x (word p b w) (flow_of k w.imm) → Right T H i x w.imm k
-  right-word t H i x p b w Kind.plain e r = r.1 x (subst (λ (k : Kind). StepHeight k x x) (sym e) refl)
-  right-word t H i x p b w Kind.pushes e r = r.1 (suc x) (subst (λ (k : Kind). StepHeight k x (suc x)) (sym e) refl)
-  right-word t H i x p b w Kind.pops e r =
+  right_word t H i x p b w Kind.plain e r = r.1 x (subst (λ (k : Kind). StepHeight k x x) (sym e) refl)
+  right_word t H i x p b w Kind.pushes e r = r.1 (suc x) (subst (λ (k : Kind). StepHeight k x (suc x)) (sym e) refl)
+  right_word t H i x p b w Kind.pops e r =
       let (y, q) = subst (λ (k : Kind). CanHeight k x) e r.0 in (y, q, r.1 y (subst (λ (k : Kind). StepHeight k x y) (sym e) q))
-  right-word t H i x p b w Kind.jumps e r = r
-  right-word t H i x p b w Kind.forks e r = r
-  right-word t H i x p b w Kind.calls e r = absurd r
-  right-word t H i x p b w Kind.ends e r = r
-  right-word t H i x p b w Kind.stuck e r = absurd r
+  right_word t H i x p b w Kind.jumps e r = r
+  right_word t H i x p b w Kind.forks e r = r
+  right_word t H i x p b w Kind.calls e r = absurd r
+  right_word t H i x p b w Kind.ends e r = r
+  right_word t H i x p b w Kind.stuck e r = absurd r
 
   -- A call lands on the first word of a function that takes what was passed.
   called : (i n : ℕ) (f : Name) → Takes fs f n → (e : ℕ) × Lands i (distance (last entry_name f T) i) e × Starts T e n
@@ -83,7 +83,7 @@ module _ (fs : List Function) (T : List Entry) (mirrors : Mirrors fs T) where
   -- A word that goes right is right once patched.
   patched : (H : ℕ → ℕ → Type 0) (i x : ℕ) (o : Open) → Goes (height (Takes fs)) H i x o (flow o) → Right T H i x (patch T i o).imm (kind (patch T i o).op)
   unfolding patch
-  patched H i x (word p b w) r = right-word (Takes fs) H i x p b w (kind w.op) refl r
+  patched H i x (word p b w) r = right_word (Takes fs) H i x p b w (kind w.op) refl r
   patched H i x (calls p f) r =
       let (n, y, t, q) = r.0 in
       let (e, l, s) = called i n f t in
@@ -94,23 +94,23 @@ module _ (fs : List Function) (T : List Entry) (mirrors : Mirrors fs T) where
   Stepped i x j z d k = (y : Way) × (t : ℕ) × (g : ℕ) × (rest : ℕ) × Moves T i d y k t g j × (t + rest ≡ x) × (z ≡ rest + g)
 
   -- Of a word.
-  stepped-word : (t : Name → ℕ → Type 0) (i x j z p : ℕ) (b : Bool) (w : Word) (k : Kind) → kind w.op ≡ k
+  stepped_word : (t : Name → ℕ → Type 0) (i x j z p : ℕ) (b : Bool) (w : Word) (k : Kind) → kind w.op ≡ k
       → Leads (height t) i x (word p b w) (flow_of k w.imm) j z → Stepped i x j z w.imm k
   unfolding Stepped
-  stepped-word t i x j z p b w Kind.plain e (s, q) = let h : z ≡ x = subst (λ (k : Kind). StepHeight k x z) e s in (Way.pass, 0, 0, x, (refl, refl, q), omega arith, omega arith)
-  stepped-word t i x j z p b w Kind.pushes e (s, q) = let h : z ≡ suc x = subst (λ (k : Kind). StepHeight k x z) e s in (Way.pass, 0, 1, x, (refl, refl, q), omega arith, omega arith)
-  stepped-word t i x j z p b w Kind.pops e (s, q) = let h : suc z ≡ x = subst (λ (k : Kind). StepHeight k x z) e s in (Way.pass, 1, 0, z, (refl, refl, q), omega arith, omega arith)
-  stepped-word t i x j z p b w Kind.jumps e (l, h) = (Way.pass, 0, 0, x, (refl, refl, l), omega arith, omega arith)
-  stepped-word t i x j z p b w Kind.forks e (inl l, h) = (Way.jump, 0, 0, x, (refl, refl, l), omega arith, omega arith)
-  stepped-word t i x j z p b w Kind.forks e (inr q, h) = (Way.pass, 0, 0, x, (refl, refl, q), omega arith, omega arith)
-  stepped-word t i x j z p b w Kind.calls e s = absurd s
-  stepped-word t i x j z p b w Kind.ends e s = absurd s
-  stepped-word t i x j z p b w Kind.stuck e s = absurd s
+  stepped_word t i x j z p b w Kind.plain e (s, q) = let h : z ≡ x = subst (λ (k : Kind). StepHeight k x z) e s in (Way.pass, 0, 0, x, (refl, refl, q), omega arith, omega arith)
+  stepped_word t i x j z p b w Kind.pushes e (s, q) = let h : z ≡ suc x = subst (λ (k : Kind). StepHeight k x z) e s in (Way.pass, 0, 1, x, (refl, refl, q), omega arith, omega arith)
+  stepped_word t i x j z p b w Kind.pops e (s, q) = let h : suc z ≡ x = subst (λ (k : Kind). StepHeight k x z) e s in (Way.pass, 1, 0, z, (refl, refl, q), omega arith, omega arith)
+  stepped_word t i x j z p b w Kind.jumps e (l, h) = (Way.pass, 0, 0, x, (refl, refl, l), omega arith, omega arith)
+  stepped_word t i x j z p b w Kind.forks e (inl l, h) = (Way.jump, 0, 0, x, (refl, refl, l), omega arith, omega arith)
+  stepped_word t i x j z p b w Kind.forks e (inr q, h) = (Way.pass, 0, 0, x, (refl, refl, q), omega arith, omega arith)
+  stepped_word t i x j z p b w Kind.calls e s = absurd s
+  stepped_word t i x j z p b w Kind.ends e s = absurd s
+  stepped_word t i x j z p b w Kind.stuck e s = absurd s
 
   -- Of a call too.
   stepped : (i x j z : ℕ) (o : Open) → Leads (height (Takes fs)) i x o (flow o) j z → Stepped i x j z (patch T i o).imm (kind (patch T i o).op)
   unfolding patch Stepped
-  stepped i x j z (word p b w) l = stepped-word (Takes fs) i x j z p b w (kind w.op) refl l
+  stepped i x j z (word p b w) l = stepped_word (Takes fs) i x j z p b w (kind w.op) refl l
   stepped i x j z (calls p f) ((n, y, t, q, h), s) = let (e, l, u) = called i n f t in (Way.pass, n, 1, y, (e, l, u, refl, s), q, omega arith)
 
   -- A function that stands in the whole obeys the law.
@@ -126,7 +126,7 @@ module _ (fs : List Function) (T : List Entry) (mirrors : Mirrors fs T) where
     -- Each word that the map has is right.
     right-at : (j x : ℕ) → Holds M (tops M piece.notes []) j x → (w : Word) × At (link T 0 whole) (e.first + j) w × Right T Map (e.first + j) x w.imm (kind w.op)
     unfolding Map
-    right-at j x a = judge (sound-at M (Holds M (tops M piece.notes [])) [] 0 j piece.notes piece.sound j x (short M piece.notes j x a) a (omega arith))
+    right-at j x a = judge (sound_at M (Holds M (tops M piece.notes [])) [] 0 j piece.notes piece.sound j x (short M piece.notes j x a) a (omega arith))
       where
         judge : (o : Open) × At (map (λ (p : Noted M). p.1) piece.notes) j o × Goes M (Holds M (tops M piece.notes [])) j x o (flow o)
             → (w : Word) × At (link T 0 whole) (e.first + j) w × Right T Map (e.first + j) x w.imm (kind w.op)

@@ -61,8 +61,8 @@ module _ (C D : List Word) (T : List Entry) (f : Entry) (same : (i h : ℕ) (w :
   back (step {i} {h} p w a y t g j m rest e) = step (back p) w (met i h (back p) w a) y t g j m rest e
 
   -- So D obeys the law.
-  pub unmet-free : Heights D T f
-  unmet-free = record {
+  pub unmet_free : Heights D T f
+  unmet_free = record {
     stays = λ i h p. law.stays i h (back p);
     enough = λ i h p w a y t g j m. law.enough i h (back p) w (met i h (back p) w a) y t g j m;
     one_height = λ i h h' p q. law.one_height i h h' (back p) (back q);
@@ -83,18 +83,18 @@ alike_moves T U a i d y Kind.stuck t g j m = m
 
 module _ (C : List Word) (T U : List Entry) (alike : Alike T U) (e d : Entry) (like : Like e d) where
   -- A path by one table is a path by the other.
-  pub alike-path : {i h : ℕ} → Path C T e i h → Path C U d i h
-  alike-path start = subst₂ (Path C U d) (sym like.0) (ap suc (sym like.1)) start
-  alike-path (step {i} {h} p w a y t g j m rest q) = step (alike-path p) w a y t g j (alike_moves T U alike i w.imm y (kind w.op) t g j m) rest q
+  pub alike_path : {i h : ℕ} → Path C T e i h → Path C U d i h
+  alike_path start = subst₂ (Path C U d) (sym like.0) (ap suc (sym like.1)) start
+  alike_path (step {i} {h} p w a y t g j m rest q) = step (alike_path p) w a y t g j (alike_moves T U alike i w.imm y (kind w.op) t g j m) rest q
 
 module _ (C : List Word) (T U : List Entry) (alike : Alike T U) (e d : Entry) (like : Like e d) (law : Heights C T e) where
   -- And the law goes over.
   other : {i h : ℕ} → Path C U d i h → Path C T e i h
-  other p = alike-path C U T (alike_back T U alike) d e (like_back e d like) p
+  other p = alike_path C U T (alike_back T U alike) d e (like_back e d like) p
 
   -- So it holds by the other table.
-  pub alike-heights : Heights C U d
-  alike-heights = record {
+  pub alike_heights : Heights C U d
+  alike_heights = record {
     stays = λ i h p. subst₂ (λ (a b : ℕ). (a ≤ i) × (i < b)) like.0 like.2 (law.stays i h (other p));
     enough = λ i h p w a y t g j m. law.enough i h (other p) w a y t g j (alike_moves U T (alike_back T U alike) i w.imm y (kind w.op) t g j m);
     one_height = λ i h h' p q. law.one_height i h h' (other p) (other q);
@@ -105,4 +105,4 @@ module _ (C : List Word) (T U : List Entry) (alike : Alike T U) (e d : Entry) (l
 -- A path that comes to a Ret does so by the other table.
 pub alike_home : (C : List Word) (T U : List Entry) → Alike T U → (e d : Entry) → Like e d → Home C T e → Home C U d
 unfolding Home
-alike_home C T U a e d l (i, s, p) = (i, s, alike-path C T U a e d l p)
+alike_home C T U a e d l (i, s, p) = (i, s, alike_path C T U a e d l p)

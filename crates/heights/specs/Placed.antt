@@ -157,12 +157,12 @@ module _ (Good : List Open → ℕ → Type 0) where
       housed all (i + length c) rest T z (stands_right all i (i + length c) c rest refl (subst (Stands all i) w up)) k e p
 
   -- The functions of a contract are laid so, with their table.
-  pub functions-laid : (takes : Name → ℕ → Type 0) (R : Rules) (C : Contract)
+  pub functions_laid : (takes : Name → ℕ → Type 0) (R : Rules) (C : Contract)
       → ((f : Function) → Stmts-fit takes f.body → All (λ (c : List Open). Good c (length f.params)) (function R C f))
       → (i : ℕ) (fs : List Function) → BodiesFit takes fs → All (λ (b : Built). Laid i b.code b.table × Mirrors fs b.table) (functions R C i fs)
   unfolding functions Laid Mirrors BodiesFit
-  functions-laid t R C g i [] q = all_ok _ (refl, tt)
-  functions-laid t R C g i (f ∷ fs) q =
+  functions_laid t R C g i [] q = all_ok _ (refl, tt)
+  functions_laid t R C g i (f ∷ fs) q =
       all_bind (function R C f) _ (g f q.0) (λ c pc.
-      all_bind (functions R C (i + length c) fs) _ (functions-laid t R C g (i + length c) fs q.1) (λ b pb.
+      all_bind (functions R C (i + length c) fs) _ (functions_laid t R C g (i + length c) fs q.1) (λ b pb.
       all_ok _ ((c, b.code, refl, refl, refl, pc, pb.0), (refl, refl, refl, pb.1))))

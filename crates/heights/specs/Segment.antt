@@ -57,9 +57,9 @@ module _ (M : Reading) where
   tops [] es = es
   tops (p ∷ m) es = p.0 ∷ tops m es
 
-  pub tops-append : (m n : List Noted) (es : List M.Note) → tops (m ++ n) es ≡ tops m (tops n es)
-  tops-append [] n es = refl
-  tops-append (p ∷ m) n es = ap (λ (l : List M.Note). p.0 ∷ l) (tops-append m n es)
+  pub tops_append : (m n : List Noted) (es : List M.Note) → tops (m ++ n) es ≡ tops m (tops n es)
+  tops_append [] n es = refl
+  tops_append (p ∷ m) n es = ap (λ (l : List M.Note). p.0 ∷ l) (tops_append m n es)
 
   -- What is known of the state at each index.
   abbrev pub Place : Type 1
@@ -109,10 +109,10 @@ module _ (M : Reading) where
   leaves_after ws i j k s t es r (l, u, q, e) = (l, u, after ws i j l s t u r q, e)
 
   -- What leaves to index j as b says, and from there on, leaves all.
-  pub leaves-on : (ws : List Open) (i j k : ℕ) (s : M.State) (b : M.Note) (es : List M.Note)
+  pub leaves_on : (ws : List Open) (i j k : ℕ) (s : M.State) (b : M.Note) (es : List M.Note)
       → Leaves ws i s j (b ∷ []) → ((t : M.State) → M.Means b t → Leaves ws j t k es) → Leaves ws i s k es
-  leaves-on ws i j k s b es (l, t, r, inl (e, m)) f = leaves_after ws i j k s t es (subst (λ (n : ℕ). Run ws i s n t) e r) (f t m)
-  leaves-on ws i j k s b es (l, t, r, inr e) f = (l, t, r, inr e)
+  leaves_on ws i j k s b es (l, t, r, inl (e, m)) f = leaves_after ws i j k s t es (subst (λ (n : ℕ). Run ws i s n t) e r) (f t m)
+  leaves_on ws i j k s b es (l, t, r, inr e) f = (l, t, r, inr e)
 
   -- The words ws, entered with a; es holds the note after the last, or nothing where nothing goes on there.
   pub record Piece (ws : List Open) (a : M.Note) (es : List M.Note) : Type 0 where
@@ -158,9 +158,9 @@ module _ (M : Reading) where
     sounds-up i k (p ∷ m) e r = (λ s q. goes-up i k s p.1 (flow p.1) e (r.0 s q), sounds-up (suc i) (suc k) m (omega arith) r.1)
 
   -- Two pieces in a row.
-  pub sounds-append : (H : Place) (i k : ℕ) (m n : List Noted) → Sounds H i m → k ≡ length m + i → Sounds H k n → Sounds H i (m ++ n)
-  sounds-append H i k [] n r e t = subst (λ (j : ℕ). Sounds H j n) (omega arith) t
-  sounds-append H i k (p ∷ m) n r e t = (r.0, sounds-append H (suc i) k m n r.1 (omega arith) t)
+  pub sounds_append : (H : Place) (i k : ℕ) (m n : List Noted) → Sounds H i m → k ≡ length m + i → Sounds H k n → Sounds H i (m ++ n)
+  sounds_append H i k [] n r e t = subst (λ (j : ℕ). Sounds H j n) (omega arith) t
+  sounds_append H i k (p ∷ m) n r e t = (r.0, sounds_append H (suc i) k m n r.1 (omega arith) t)
 
   -- One piece behind another.
   pub cat : {v w : List Open} {a b : M.Note} {es : List M.Note} → Piece v a (b ∷ []) → Piece w b es → Piece (v ++ w) a es
@@ -169,8 +169,8 @@ module _ (M : Reading) where
         notes = m ++ n;
         words = map-append _ m n ∙ ap₂ ◌++◌ p.words q.words;
         begins = λ s h. subst (λ (l : List M.Note). Holds l 0 s) (sym same) (glue m b (tops n es) q.begins 0 s (p.begins s h));
-        sound = subst (λ (l : List M.Note). Sounds (Holds l) 0 (m ++ n)) (sym same) (sounds-append H 0 (length m) m n first (omega arith) second);
-        leaves = λ whole d at s h. leaves-on whole d (d + length v) (d + length (v ++ w)) s b es
+        sound = subst (λ (l : List M.Note). Sounds (Holds l) 0 (m ++ n)) (sym same) (sounds_append H 0 (length m) m n first (omega arith) second);
+        leaves = λ whole d at s h. leaves_on whole d (d + length v) (d + length (v ++ w)) s b es
             (p.leaves whole d (stands_left whole d v w at) s h)
             (λ t k. subst (λ (z : ℕ). Leaves whole (d + length v) t z es) (omega (arith, length-append v w))
             (q.leaves whole (d + length v) (stands_right whole d (d + length v) v w refl at) t k));
@@ -183,7 +183,7 @@ module _ (M : Reading) where
       n = q.notes
 
       same : tops (m ++ n) es ≡ tops m (tops n es)
-      same = tops-append m n es
+      same = tops_append m n es
 
       H : Place
       H = Holds (tops m (tops n es))

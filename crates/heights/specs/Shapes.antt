@@ -11,7 +11,7 @@ use Rattle.isa.specs.declared.Opcode.TheVariants as op
 use Rattle.rules.specs.Machine.{Imm, At}
 use Rattle.rules.specs.Emit.{Open, emit, jump, branches, loops}
 use Rattle.heights.specs.Positions.{Stands, stands_left, stands_right}
-use Rattle.heights.specs.Segment.{Reading, Noted, Holds, tops, tops-append, Place, Goes, flow, Sounds, enter, onward, Leaves, leaves_after, leaves-on, Piece, noted, glue, beyond, move, sounds-up, sounds-append}
+use Rattle.heights.specs.Segment.{Reading, Noted, Holds, tops, tops_append, Place, Goes, flow, Sounds, enter, onward, Leaves, leaves_after, leaves_on, Piece, noted, glue, beyond, move, sounds-up, sounds_append}
 
 -- The first of words that stand somewhere.
 first_of : (whole : List Open) (d : ℕ) (o : Open) (ws : List Open) → Stands whole d (o ∷ ws) → At whole d o
@@ -24,7 +24,7 @@ module _ (M : Reading) where
   unfolding branches
   branch_leaves z r e t b whole d s at in-first =
       leaves_after M whole d (suc d) _ s s (b ∷ []) (onward enter fork (first_of whole d fork _ at) (suc d) s (inr refl, refl))
-      (leaves-on M whole (suc d) (suc d + length e) _ s b (b ∷ []) (in-first (stands_left whole (suc d) e (over ∷ t) behind)) (λ u h.
+      (leaves_on M whole (suc d) (suc d + length e) _ s b (b ∷ []) (in-first (stands_left whole (suc d) e (over ∷ t) behind)) (λ u h.
       (d + length (branches z r e t), u, onward enter over (first_of whole _ over t (stands_right whole (suc d) _ e (over ∷ t) refl behind)) _ u (omega (arith, length-append e (over ∷ t)), refl), inl (refl, h))))
     where
       fork : Open
@@ -37,11 +37,11 @@ module _ (M : Reading) where
       behind = stands_right whole d (suc d) (fork ∷ []) (e ++ (over ∷ t)) (omega arith) at
 
   -- Over a condition, past the fork, and out.
-  loop-leaves : (z r : ℕ) (c w : List Open) (b : M.Note) (whole : List Open) (d : ℕ) (s : M.State) → Stands whole d (loops z r c w)
+  loop_leaves : (z r : ℕ) (c w : List Open) (b : M.Note) (whole : List Open) (d : ℕ) (s : M.State) → Stands whole d (loops z r c w)
       → (Stands whole d c → Leaves M whole d s (d + length c) (b ∷ [])) → Leaves M whole d s (d + length (loops z r c w)) (b ∷ [])
   unfolding loops
-  loop-leaves z r c w b whole d s at in-first =
-      leaves-on M whole d (d + length c) _ s b (b ∷ []) (in-first (stands_left whole d c _ at)) (λ u h.
+  loop_leaves z r c w b whole d s at in-first =
+      leaves_on M whole d (d + length c) _ s b (b ∷ []) (in-first (stands_left whole d c _ at)) (λ u h.
       leaves_after M whole (d + length c) (suc (d + length c)) _ u u (b ∷ []) (onward enter fork (first_of whole _ fork _ behind) _ u (inr refl, refl))
       (d + length (loops z r c w), u, onward enter out (first_of whole _ out _ (stands_right whole (d + length c) _ (fork ∷ []) _ (omega arith) behind)) _ u (omega (arith, length-append c (fork ∷ out ∷ (w ++ (back ∷ []))), length-append w (back ∷ [])), refl), inl (refl, h)))
     where
@@ -65,7 +65,7 @@ module _ (M : Reading) where
         notes = all;
         words = ap (λ (l : List Open). fork ∷ l) (map-append _ m ((b, over) ∷ n) ∙ ap₂ (λ (x y : List Open). x ++ (over ∷ y)) p.words q.words);
         begins = λ s h. h;
-        sound = subst (λ (l : List M.Note). Sounds M (Holds M l) 0 all) (sym same) (at_fork, sounds-append M H 1 (suc (length m)) m ((b, over) ∷ n) first (omega arith) (at-over, second));
+        sound = subst (λ (l : List M.Note). Sounds M (Holds M l) 0 all) (sym same) (at_fork, sounds_append M H 1 (suc (length m)) m ((b, over) ∷ n) first (omega arith) (at-over, second));
         leaves = λ whole d at s h. branch_leaves z r e t b whole d s at (λ on. p.leaves whole (suc d) on s h);
       }
     where
@@ -91,7 +91,7 @@ module _ (M : Reading) where
       line = a ∷ tops M m rest
 
       same : tops M all (b ∷ []) ≡ line
-      same = ap (λ (l : List M.Note). a ∷ l) (tops-append M m ((b, over) ∷ n) (b ∷ []))
+      same = ap (λ (l : List M.Note). a ∷ l) (tops_append M m ((b, over) ∷ n) (b ∷ []))
 
       H : Place M
       H = Holds M line
@@ -124,9 +124,9 @@ module _ (M : Reading) where
             ∙ ap₂ (λ (x y : List Open). x ++ (fork ∷ out ∷ y)) p.words (map-append _ n ((a, back) ∷ []) ∙ ap (λ (x : List Open). x ++ (back ∷ [])) q.words);
         begins = λ s h. subst (λ (l : List M.Note). Holds M l 0 s) (sym same) (at_top s h);
         sound = subst (λ (l : List M.Note). Sounds M (Holds M l) 0 all) (sym same)
-            (sounds-append M H 0 (length m) m ((b, fork) ∷ (b, out) ∷ (n ++ ((a, back) ∷ []))) first (omega arith)
-            (at_fork, (at_out, sounds-append M H (suc (suc (length m))) (length n + suc (suc (length m))) n ((a, back) ∷ []) second refl (at_back, tt))));
-        leaves = λ whole d at s h. loop-leaves z r c w b whole d s at (λ on. p.leaves whole d on s h);
+            (sounds_append M H 0 (length m) m ((b, fork) ∷ (b, out) ∷ (n ++ ((a, back) ∷ []))) first (omega arith)
+            (at_fork, (at_out, sounds_append M H (suc (suc (length m))) (length n + suc (suc (length m))) n ((a, back) ∷ []) second refl (at_back, tt))));
+        leaves = λ whole d at s h. loop_leaves z r c w b whole d s at (λ on. p.leaves whole d on s h);
       }
     where
       m : List (Noted M)
@@ -151,7 +151,7 @@ module _ (M : Reading) where
       rest = b ∷ b ∷ tops M n (a ∷ b ∷ [])
 
       same : tops M all (b ∷ []) ≡ tops M m rest
-      same = tops-append M m ((b, fork) ∷ (b, out) ∷ (n ++ ((a, back) ∷ []))) (b ∷ []) ∙ ap (λ (l : List M.Note). tops M m (b ∷ b ∷ l)) (tops-append M n ((a, back) ∷ []) (b ∷ []))
+      same = tops_append M m ((b, fork) ∷ (b, out) ∷ (n ++ ((a, back) ∷ []))) (b ∷ []) ∙ ap (λ (l : List M.Note). tops M m (b ∷ b ∷ l)) (tops_append M n ((a, back) ∷ []) (b ∷ []))
 
       H : Place M
       H = Holds M (tops M m rest)

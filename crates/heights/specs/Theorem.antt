@@ -26,7 +26,7 @@ use Rattle.heights.specs.Fits.{Stmts-fit}
 use Rattle.bounds.specs.Answers.{All, all_ok, all_bad, all_bind, all_next, all_map, from_ok}
 use Rattle.heights.specs.Checks.{Takes, takes_one, BodiesFit, analysis_fits}
 use Rattle.heights.specs.Pieces.{function-closed}
-use Rattle.heights.specs.Placed.{length_link, Mirrors, Laid, covers, Housed, housed, functions-laid, mirrors_length}
+use Rattle.heights.specs.Placed.{length_link, Mirrors, Laid, covers, Housed, housed, functions_laid, mirrors_length}
 use Rattle.heights.specs.Judged.{short, Map, certified, comes_home}
 
 -- What is shown of a function's words.
@@ -95,7 +95,7 @@ generated R C q = with (last function_name main fs)
 
     with : (o : Option Function) → All (Obeys fs) (with_main o (functions R C 3 fs >>= λ b. ok (record { words = link b.table 0 (opening R ++ b.code); table = b.table })))
     with none = all_bad _
-    with (some f) = all_bind (functions R C 3 fs) _ (functions-laid (Good fs) (Takes fs) R C closed 3 fs q) (λ b p. all_ok _ (obeys fs b.table p.1 R b.code p.0))
+    with (some f) = all_bind (functions R C 3 fs) _ (functions_laid (Good fs) (Takes fs) R C closed 3 fs q) (λ b p. all_ok _ (obeys fs b.table p.1 R b.code p.0))
 
 -- Whatever the rules (registers, edition): of a contract that analysis passes, every function obeys the law.
 pub generated_obeys : (R : Rules) (C : Contract) → All (λ u. All (Obeys C.functions) (generate R C)) (analyse C)

@@ -1,1 +1,2 @@
 // Nothing to run: the crate is its specs/, laws over the definitions of `rules`.
+#![tactic(auto)]

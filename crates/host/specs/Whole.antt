@@ -1,7 +1,7 @@
 -- The one number, and all of the bytes after a host's build (01: A host's entry).
 --     unpacked         refusal, place and count can be told from it
---     refused-zero     a refusal other than 0: every byte is zero
---     rest-lent        0: the bytes are as lent past the words
+--     refused_zero     a refusal other than 0: every byte is zero
+--     rest_lent        0: the bytes are as lent past the words
 -- Assumes nothing.
 use Rattle.std.specs.Prelude.{◌≡◌, Bool, ℕ, ◌*◌, ◌/◌, ◌%◌, ◌^◌}
 use Rattle.std.proofs.Math.Path.{refl, sym, subst}
@@ -34,17 +34,17 @@ module _ (img s : List ℕ) (r : ℕ) (s' : List ℕ) (number : r ≡ host_of ru
   unfolding host_of a rules
   told = let h = unpacked a (small rules (omega arith) img (length s)) in rw number (h.0, h.2)
 
-  pub refused-zero : (r % 256 ≡ 0 → ⊥) → s' ≡ replicate (length s) 0
+  pub refused_zero : (r % 256 ≡ 0 → ⊥) → s' ≡ replicate (length s) 0
   unfolding host_bytes program_answer at_exit a
-  refused-zero wrong = by (hosted rules img (length s)) refl
+  refused_zero wrong = by (hosted rules img (length s)) refl
     where
       by : (o : Res Program) → hosted rules img (length s) ≡ o → s' ≡ replicate (length s) 0
       by (ok P) e = absurd (wrong (told.0 ∙ rw e refl))
       by (bad q) e = bytes ∙ rw e (all_zero s)
 
-  pub rest-lent : r % 256 ≡ 0 → Rest (8 * (r / 2 ^ 32)) s s'
+  pub rest_lent : r % 256 ≡ 0 → Rest (8 * (r / 2 ^ 32)) s s'
   unfolding hosted host_bytes program_answer at_exit fits unless refused number_of ◌>>=◌ words_of a
-  rest-lent z = by (program rules img) refl
+  rest_lent z = by (program rules img) refl
     where
       room : (P : Program) → program rules img ≡ ok P → (b : Bool) → ltb (length s / 8) (length P.words) ≡ b → Rest (8 * (r / 2 ^ 32)) s s'
       room P e true f = absurd (let n : a.refusal ≡ 50 = rw (e, f) refl in omega (arith, told.0, n, z))

@@ -102,41 +102,41 @@ alone_many x l z = by x (truth _ (every_at 18 (λ (y : ℕ). eqb y 0 or eqb (get
 
 -- One of a List.
 module _ (x i : ℕ) (h : x ≤ 27) where
-  listed-first : listed x i % 32 ≡ x
+  listed_first : listed x i % 32 ≡ x
   unfolding listed
-  listed-first = let m = (class_of x).most - i in omega arith
+  listed_first = let m = (class_of x).most - i in omega arith
 
-  listed-rest : 18 ≤ x → full x (listed x i) ≡ false → further x (listed x i) ≡ listed x (i + 1)
+  listed_rest : 18 ≤ x → full x (listed x i) ≡ false → further x (listed x i) ≡ listed x (i + 1)
   unfolding listed further full pick
-  listed-rest l f =
+  listed_rest l f =
       let g : 4294967296 ≤ x + 4294967296 * ((class_of x).most - i) = ltb-false (x + 4294967296 * ((class_of x).most - i)) 4294967296 (rw (le-leb 18 x l) at f) in
       rw (le-leb 18 x l) (omega arith)
 
-  listed-full : 18 ≤ x → leb (class_of x).most i ≡ full x (listed x i)
+  listed_full : 18 ≤ x → leb (class_of x).most i ≡ full x (listed x i)
   unfolding listed full
-  listed-full l =
+  listed_full l =
       rw (le-leb 18 x l)
       (by_cases (leb (class_of x).most i ≡ ltb (x + 4294967296 * ((class_of x).most - i)) 4294967296) (class_of x).most i
       (λ g. le-leb (class_of x).most i g ∙ sym (lt-ltb (x + 4294967296 * ((class_of x).most - i)) 4294967296 (omega arith)))
       (λ g. lt-leb (class_of x).most i g ∙ sym (le-ltb (x + 4294967296 * ((class_of x).most - i)) 4294967296 (omega arith))))
 
 module _ (d i : ℕ) (xs : List ℕ) (h : T (small xs)) where
-  range-by : (b : Bool) → pick b (class_of d).item (get_or xs i 0) < 28
+  range_by : (b : Bool) → pick b (class_of d).item (get_or xs i 0) < 28
   unfolding pick
-  range-by true = let r = item_range d in omega arith
-  range-by false = let l = part_small xs i h in omega arith
+  range_by true = let r = item_range d in omega arith
+  range_by false = let l = part_small xs i h in omega arith
 
   first_by : (b : Bool) → pick b (listed (class_of d).item i) (packed (drop i xs)) % 32 ≡ pick b (class_of d).item (get_or xs i 0)
   unfolding pick
-  first_by true = listed-first (class_of d).item i (item_range d).0
+  first_by true = listed_first (class_of d).item i (item_range d).0
   first_by false = head xs i h
 
-  rest-by :
+  rest_by :
       (b : Bool) → (pick b (class_of d).item (get_or xs i 0) ≡ 0 → ⊥) → full (pick b (class_of d).item (get_or xs i 0)) (pick b (listed (class_of d).item i) (packed (drop i xs))) ≡ false
       → further (pick b (class_of d).item (get_or xs i 0)) (pick b (listed (class_of d).item i) (packed (drop i xs))) ≡ pick b (listed (class_of d).item (i + 1)) (packed (drop (i + 1) xs))
   unfolding pick further
-  rest-by true z f = listed-rest (class_of d).item i (item_range d).0 ((item_range d).1 z) f
-  rest-by false z f =
+  rest_by true z f = listed_rest (class_of d).item i (item_range d).0 ((item_range d).1 z) f
+  rest_by false z f =
       rw (lt-leb 18 (get_or xs i 0) (let l = part_small xs i h in omega arith))
       (tail xs i h ∙ ap (λ (n : ℕ). packed (drop n xs)) (sym (add-one i)))
 
@@ -144,7 +144,7 @@ module _ (d i : ℕ) (xs : List ℕ) (h : T (small xs)) where
       (b : Bool) → (pick b (class_of d).item (get_or xs i 0) ≡ 0 → ⊥) → i < 65536
       → leb (class_of (pick b (class_of d).item (get_or xs i 0))).most i ≡ full (pick b (class_of d).item (get_or xs i 0)) (pick b (listed (class_of d).item i) (packed (drop i xs)))
   unfolding pick full
-  full_by true z l = listed-full (class_of d).item i (item_range d).0 ((item_range d).1 z)
+  full_by true z l = listed_full (class_of d).item i (item_range d).0 ((item_range d).1 z)
   full_by false z l =
       let s = part_small xs i h in
       rw (alone_many (get_or xs i 0) s z, lt-leb 65536 i l, lt-leb 18 (get_or xs i 0) (omega arith)) refl
@@ -152,18 +152,18 @@ module _ (d i : ℕ) (xs : List ℕ) (h : T (small xs)) where
 module _ (d k i : ℕ) where
   pub due_below : due_at d k i < 28
   unfolding due_at part_of
-  due_below = range-by d i (parts_of k) (parts_small k) (eqb k 2)
+  due_below = range_by d i (parts_of k) (parts_small k) (eqb k 2)
 
   -- What is due at the i-th part, and what from the next on.
-  pub due-first : dues_of d k i % 32 ≡ due_at d k i
+  pub due_first : dues_of d k i % 32 ≡ due_at d k i
   unfolding dues_of due_at part_of
-  due-first = first_by d i (parts_of k) (parts_small k) (eqb k 2)
+  due_first = first_by d i (parts_of k) (parts_small k) (eqb k 2)
 
-  pub due-rest : (due_at d k i ≡ 0 → ⊥) → full (due_at d k i) (dues_of d k i) ≡ false → further (due_at d k i) (dues_of d k i) ≡ dues_of d k (i + 1)
+  pub due_rest : (due_at d k i ≡ 0 → ⊥) → full (due_at d k i) (dues_of d k i) ≡ false → further (due_at d k i) (dues_of d k i) ≡ dues_of d k (i + 1)
   unfolding dues_of due_at part_of
-  due-rest = rest-by d i (parts_of k) (parts_small k) (eqb k 2)
+  due_rest = rest_by d i (parts_of k) (parts_small k) (eqb k 2)
 
   -- Its bound is passed where the number says so.
-  pub due-full : (due_at d k i ≡ 0 → ⊥) → i < 65536 → leb (class_of (due_at d k i)).most i ≡ full (due_at d k i) (dues_of d k i)
+  pub due_full : (due_at d k i ≡ 0 → ⊥) → i < 65536 → leb (class_of (due_at d k i)).most i ≡ full (due_at d k i) (dues_of d k i)
   unfolding dues_of due_at part_of
-  due-full = full_by d i (parts_of k) (parts_small k) (eqb k 2)
+  due_full = full_by d i (parts_of k) (parts_small k) (eqb k 2)

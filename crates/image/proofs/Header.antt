@@ -31,44 +31,44 @@ framed s at end e =
     (ltb-false _ _ o.0, ltb-false _ _ o'.0, ltb-false _ _ o'.1)
 
 module _ (s : List ℕ) (at end left d i vars : ℕ) where
-  pub refuse-2 : unframed s at end ≡ true → refusal_of (header_of s at end left d i vars) ≡ 2
+  pub refuse_2 : unframed s at end ≡ true → refusal_of (header_of s at end left d i vars) ≡ 2
   unfolding pick refusal_of header_of
-  refuse-2 a = rw a
+  refuse_2 a = rw a
 
-  pub refuse-6 : unframed s at end ≡ false → eqb left 0 ≡ true → refusal_of (header_of s at end left d i vars) ≡ 6
+  pub refuse_6 : unframed s at end ≡ false → eqb left 0 ≡ true → refusal_of (header_of s at end left d i vars) ≡ 6
   unfolding pick refusal_of header_of
-  refuse-6 a b = rw (a, b)
+  refuse_6 a b = rw (a, b)
 
-  pub refuse-3 :
+  pub refuse_3 :
       unframed s at end ≡ false → eqb left 0 ≡ false → undue d (kind_at s at) ≡ true → refusal_of (header_of s at end left d i vars) ≡ 3
   unfolding pick refusal_of header_of
-  refuse-3 a b c = rw (a, b, c)
+  refuse_3 a b c = rw (a, b, c)
 
-  pub refuse-7 :
+  pub refuse_7 :
       unframed s at end ≡ false →
       eqb left 0 ≡ false →
       undue d (kind_at s at) ≡ false →
       crowded d (kind_at s at) i vars ≡ true → refusal_of (header_of s at end left d i vars) ≡ 7
   unfolding pick refusal_of header_of
-  refuse-7 a b c e = rw (a, b, c, e)
+  refuse_7 a b c e = rw (a, b, c, e)
 
-  pub refuse-5 :
+  pub refuse_5 :
       unframed s at end ≡ false →
       eqb left 0 ≡ false →
       undue d (kind_at s at) ≡ false →
       crowded d (kind_at s at) i vars ≡ false →
       own_of s (at + 6) (end_at s at) (kind_at s at) ≡ false → refusal_of (header_of s at end left d i vars) ≡ 5
   unfolding pick refusal_of header_of
-  refuse-5 a b c e f = rw (a, b, c, e, f)
+  refuse_5 a b c e f = rw (a, b, c, e, f)
 
-  pub refuse-0 :
+  pub refuse_0 :
       unframed s at end ≡ false →
       eqb left 0 ≡ false →
       undue d (kind_at s at) ≡ false →
       crowded d (kind_at s at) i vars ≡ false →
       own_of s (at + 6) (end_at s at) (kind_at s at) ≡ true → refusal_of (header_of s at end left d i vars) ≡ 0
   unfolding pick refusal_of header_of
-  refuse-0 a b c e f = rw (a, b, c, e, f)
+  refuse_0 a b c e f = rw (a, b, c, e, f)
 
 -- the first test passes where nothing is refused
 first : (b : Bool) (n rest : ℕ) → pick b (suc n) rest ≡ 0 → (b ≡ false) × (rest ≡ 0)

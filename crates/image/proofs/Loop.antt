@@ -16,10 +16,10 @@ use Rattle.rules.specs.declared.Seen.TheVariants.{Sound, Fault}
 use Rattle.image.specs.Leaves.{leaf}
 use Rattle.image.specs.Rows.{dues_of, further, full, off, inner}
 use Rattle.image.specs.Within.{parts_in, short, first_of, fault_of, Told, Parts}
-use Rattle.image.proofs.Header.{refuse-2}
-use Rattle.image.proofs.Steps.{part-leaf, part-open}
+use Rattle.image.proofs.Header.{refuse_2}
+use Rattle.image.proofs.Steps.{part_leaf, part_open}
 use Rattle.image.proofs.Reach.{reaches}
-use Rattle.image.proofs.Turns.{Turn, Passed, told_sound, first_same, first_own, walk-ended, walk-told, walk-fault, walk_refused, walk_more, walk-tail, header_is}
+use Rattle.image.proofs.Turns.{Turn, Passed, told_sound, first_same, first_own, walk_ended, walk-told, walk-fault, walk_refused, walk_more, walk-tail, header_is}
 
 -- An answer that is a fault goes on as it is; any other is a count.
 told_pass : (at end r : ℕ) (x y : Seen) → Told at x r → at ≤ 65536 → 65536 ≤ r → ((number place : ℕ) → x ≡ Fault number place → y ≡ Fault number place) → Told end y r
@@ -57,18 +57,18 @@ ended_at x p end e = go (eqb p end) refl e
     go false f g = absurd (subst T (sym g) tt)
 
 module _ (t s : List ℕ) (from end levels dues vars p left w n : ℕ) (I : Turn t s from end levels dues vars p left w n) where
-  pub turn-ended : ended (w % 32) p end ≡ true → Parts levels s from end dues vars n
-  turn-ended e d k z = told_sound end n _ (walk-ended s from end levels d k vars p left w n (I.walk d k z) e) (omega (arith, I.few, I.inside))
+  pub turn_ended : ended (w % 32) p end ≡ true → Parts levels s from end dues vars n
+  turn_ended e d k z = told_sound end n _ (walk_ended s from end levels d k vars p left w n (I.walk d k z) e) (omega (arith, I.few, I.inside))
 
   few_bytes : end - p < 6 → unframed s p end ≡ true
   unfolding unframed
   few_bytes l = rw (lt-ltb (end - p) 6 l)
 
-  pub turn-short : end - p < 6 → ended (w % 32) p end ≡ false → Parts levels s from end dues vars (fault_of (w % 32) 2 p)
-  turn-short l e d k z =
+  pub turn_short : end - p < 6 → ended (w % 32) p end ≡ false → Parts levels s from end dues vars (fault_of (w % 32) 2 p)
+  turn_short l e d k z =
       let W = I.walk d k z in
       walk-told s from end levels d k vars p left w n W e 2 (omega arith) (omega (arith, I.inside, I.bound))
-      (λ y. walk_refused s from end levels d k vars p left w n W e y 1 (refuse-2 s p end left (w % 32) W.k n (few_bytes l)))
+      (λ y. walk_refused s from end levels d k vars p left w n W e y 1 (refuse_2 s p end left (w % 32) W.k n (few_bytes l)))
 
   module _ (room : 6 ≤ end - p) where
     going : ended (w % 32) p end ≡ false
@@ -128,14 +128,14 @@ module _ (t s : List ℕ) (from end levels dues vars p left w n : ℕ) (I : Turn
               deep = I.deep;
               walk = λ d k z.
                   walk_more s from end levels d k vars p left w n (I.walk d k z) going some P.free (p + 4 + size) n
-                  (part-leaf s p end (w % 32) (I.walk d k z).k n left (sound d k z o) (leaf-is true l) ∙ rw e refl)
+                  (part_leaf s p end (w % 32) (I.walk d k z).k n left (sound d k z o) (leaf-is true l) ∙ rw e refl)
                   (omega arith) (omega (arith, P.fits, I.inside));
             }
 
         module _ (l : ltb (get_or t kind 0) 4294967296 ≡ false) (v m : ℕ) (vi : v ≡ inner t (w % 32) kind) (mi : m ≡ vars_in_lem (w % 32) kind n) (mn : m ≤ n + 1) where
           opened : (d k : ℕ) (z : dues ≡ dues_of d k 0) → record_of left s p end (w % 32) (I.walk d k z).k n ≡ parts_in (left - 1) s (p + 6) (p + 4 + size) (w % 32) kind m
           opened d k z =
-              part-open s p end (w % 32) (I.walk d k z).k n left (sound d k z (own_open s (p + 6) (p + 4 + size) kind (ap leaf f ∙ leaf-is false l))) (leaf-is false l)
+              part_open s p end (w % 32) (I.walk d k z).k n left (sound d k z (own_open s (p + 6) (p + 4 + size) kind (ap leaf f ∙ leaf-is false l))) (leaf-is false l)
               ∙ rw (mi, e, f) refl
 
           state : v ≡ dues_of (w % 32) kind 0

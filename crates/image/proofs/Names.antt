@@ -43,14 +43,14 @@ few_named s from to h g n k l m = by_cases (N k) (from + 1) k
     N x = name_byte_lem (byte_at s x) ≡ true
 
 module _ (s : List ℕ) (from p to : ℕ) (before : Named s from p) where
-  pub eight-more : Fours s p (p + 4) → Named s from (p + 8)
-  eight-more f k l m =
+  pub eight_more : Fours s p (p + 4) → Named s from (p + 8)
+  eight_more f k l m =
       by_cases (name_byte_lem (byte_at s k) ≡ true) p k
       (λ g. by_cases (name_byte_lem (byte_at s k) ≡ true) (p + 4) k (λ i. f.1 k i (omega arith)) (λ i. f.0 k g i))
       (λ g. before k l g)
 
-  pub last-eight : (q : ℕ) → q ≡ min p (to - 4) → from + 4 ≤ to → to ≤ p + 8 → Fours s q (to - 4) → Named s from to
-  last-eight q e h r f k l m =
+  pub last_eight : (q : ℕ) → q ≡ min p (to - 4) → from + 4 ≤ to → to ≤ p + 8 → Fours s q (to - 4) → Named s from to
+  last_eight q e h r f k l m =
       by_cases (name_byte_lem (byte_at s k) ≡ true) p k
       (λ g. by_cases (name_byte_lem (byte_at s k) ≡ true) (to - 4) k (λ i. f.1 k i (omega arith)) (λ i. f.0 k (omega arith) (omega arith)))
       (λ g. before k l g)

@@ -18,41 +18,41 @@ use Rattle.image.proofs.Header.{or_false, passed, sound_header}
 
 module _ (s : List ℕ) (at end d i vars : ℕ) where
   -- a refused header is the answer
-  pub record-refused :
+  pub record_refused :
       (left : ℕ) →
       (refusal_of (header_of s at end left d i vars) ≡ 0 → ⊥) →
       record_of left s at end d i vars ≡ Fault (refusal_of (header_of s at end left d i vars)) at
   unfolding pick record_of record_by
-  record-refused zero h = rw (ne_eqb (refusal_of (header_of s at end 0 d i vars)) 0 h)
-  record-refused (suc l) h = rw (ne_eqb (refusal_of (header_of s at end (suc l) d i vars)) 0 h)
+  record_refused zero h = rw (ne_eqb (refusal_of (header_of s at end 0 d i vars)) 0 h)
+  record_refused (suc l) h = rw (ne_eqb (refusal_of (header_of s at end (suc l) d i vars)) 0 h)
 
   -- otherwise the children decide, with one level less
-  pub record-open :
+  pub record_open :
       (left : ℕ) →
       refusal_of (header_of s at end left d i vars) ≡ 0 →
       record_of left s at end d i vars ≡
       children_of (record_of (left - 1)) (suc (end_at s at - start_of (kind_at s at) (at + 6) (end_at s at))) s
       (start_of (kind_at s at) (at + 6) (end_at s at)) (end_at s at) d (kind_at s at) 0 (vars_in_lem d (kind_at s at) vars)
   unfolding pick record_of record_by
-  record-open zero e = let h = sound_header s at end 0 d i vars e in absurd (omega arith)
-  record-open (suc l) e =
+  record_open zero e = let h = sound_header s at end 0 d i vars e in absurd (omega arith)
+  record_open (suc l) e =
       let p : suc l - 1 ≡ l = omega arith in
       rw (p, eq-eqb (refusal_of (header_of s at end (suc l) d i vars)) 0 e)
 
 module _ (child : Child) (s : List ℕ) (p end d k i vars : ℕ) where
-  pub parts-ended :
+  pub parts_ended :
       (fuel : ℕ) → end - p < fuel → ended (due_at d k i) p end ≡ true → children_of child fuel s p end d k i vars ≡ Sound end vars
   unfolding pick children_of
-  parts-ended zero h e = absurd (omega arith)
-  parts-ended (suc f) h e = rw e
+  parts_ended zero h e = absurd (omega arith)
+  parts_ended (suc f) h e = rw e
 
-  pub parts-left :
+  pub parts_left :
       (fuel : ℕ) →
       end - p < fuel →
       ended (due_at d k i) p end ≡ false → due_at d k i ≡ 0 → children_of child fuel s p end d k i vars ≡ Fault 4 p
   unfolding pick children_of
-  parts-left zero h e z = absurd (omega arith)
-  parts-left (suc f) h e z = rw (e, eq-eqb (due_at d k i) 0 z)
+  parts_left zero h e z = absurd (omega arith)
+  parts_left (suc f) h e z = rw (e, eq-eqb (due_at d k i) 0 z)
 
   pub parts_then :
       (fuel : ℕ) →
@@ -66,15 +66,15 @@ module _ (child : Child) (s : List ℕ) (p end d k i vars : ℕ) where
       let o : suc f - 1 ≡ f = omega arith in
       rw (o, e, ne_eqb (due_at d k i) 0 z)
 
-  pub parts-fault :
+  pub parts_fault :
       (fuel : ℕ) →
       end - p < fuel →
       ended (due_at d k i) p end ≡ false →
       (due_at d k i ≡ 0 → ⊥) →
       (n q : ℕ) → child s p end (due_at d k i) i vars ≡ Fault n q → children_of child fuel s p end d k i vars ≡ Fault n q
   unfolding pick children_of and_then
-  parts-fault zero h e z n q c = absurd (omega arith)
-  parts-fault (suc f) h e z n q c = rw (e, ne_eqb (due_at d k i) 0 z, c)
+  parts_fault zero h e z n q c = absurd (omega arith)
+  parts_fault (suc f) h e z n q c = rw (e, ne_eqb (due_at d k i) 0 z, c)
 
   pub parts_more :
       (fuel : ℕ) →
@@ -126,13 +126,13 @@ module _ (k : ℕ) (e : leaf k ≡ true) where
   unfolding leaf pick
   no-function z = subst T (sym (subst (λ (x : ℕ). leaf x ≡ true) z e)) tt
 
-  no-let : k ≡ 32 → ⊥
+  no_let : k ≡ 32 → ⊥
   unfolding leaf pick
-  no-let z = subst T (sym (subst (λ (x : ℕ). leaf x ≡ true) z e)) tt
+  no_let z = subst T (sym (subst (λ (x : ℕ). leaf x ≡ true) z e)) tt
 
-  no-for : k ≡ 39 → ⊥
+  no_for : k ≡ 39 → ⊥
   unfolding leaf pick
-  no-for z = subst T (sym (subst (λ (x : ℕ). leaf x ≡ true) z e)) tt
+  no_for z = subst T (sym (subst (λ (x : ℕ). leaf x ≡ true) z e)) tt
 
   no_field : k ≡ 17 → ⊥
   unfolding leaf pick
@@ -150,7 +150,7 @@ no_param d k e u z = no_field k e (only k 17 (subst (λ (x : ℕ). undue x k ≡
 
 leaf_vars : (d k n : ℕ) → leaf k ≡ true → undue d k ≡ false → vars_in_lem d k n ≡ n
 unfolding pick vars_in_lem counts
-leaf_vars d k n e u = rw (ne_eqb k 19 (no-function k e), ne_eqb d 22 (no_param d k e u), ne_eqb k 32 (no-let k e), ne_eqb k 39 (no-for k e))
+leaf_vars d k n e u = rw (ne_eqb k 19 (no-function k e), ne_eqb d 22 (no_param d k e u), ne_eqb k 32 (no_let k e), ne_eqb k 39 (no_for k e))
 
 leaf_children : (child : Child) (f : ℕ) (s : List ℕ) (end d k vars : ℕ) → leaf k ≡ true → children_of child (suc f) s end end d k 0 vars ≡ Sound end vars
 unfolding pick children_of ended class_of
@@ -158,16 +158,16 @@ leaf_children child f s end d k vars e = rw (leaf_due d k e, eq-eqb end end refl
 
 module _ (s : List ℕ) (at end d i vars left : ℕ) (e : refusal_of (header_of s at end left d i vars) ≡ 0) where
   -- A sound leaf ends where it says, and counts for nothing.
-  pub part-leaf : leaf (kind_at s at) ≡ true → record_of left s at end d i vars ≡ Sound (end_at s at) vars
+  pub part_leaf : leaf (kind_at s at) ≡ true → record_of left s at end d i vars ≡ Sound (end_at s at) vars
   unfolding pick
-  part-leaf l =
-      record-open s at end d i vars left e
+  part_leaf l =
+      record_open s at end d i vars left e
       ∙ rw (start_is (kind_at s at) (at + 6) (end_at s at), l, leaf_vars d (kind_at s at) vars l (passed s at end left d i vars e).2)
       (leaf_children (record_of (left - 1)) _ s (end_at s at) d (kind_at s at) vars l)
 
   -- Of any other record its parts decide.
-  pub part-open :
+  pub part_open :
       leaf (kind_at s at) ≡ false →
       record_of left s at end d i vars ≡ parts_in (left - 1) s (at + 6) (end_at s at) d (kind_at s at) (vars_in_lem d (kind_at s at) vars)
   unfolding pick parts_in
-  part-open l = record-open s at end d i vars left e ∙ rw (start_is (kind_at s at) (at + 6) (end_at s at), l) refl
+  part_open l = record_open s at end d i vars left e ∙ rw (start_is (kind_at s at) (at + 6) (end_at s at), l) refl

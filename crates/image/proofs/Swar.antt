@@ -132,16 +132,16 @@ module _ (s : List ℕ) (p q : ℕ) (h : (k : ℕ) → get_or s k 0 < 256) (e : 
 
 -- One to three bytes, with a fourth that is one of a name.
 module _ (a b c : ℕ) (h : (a < 256) × (b < 256) × (c < 256)) (e : bit_and (a + 256 * b + 65536 * c + 805306368) 2155905152 ≡ 0) where
-  few-is : a + 256 * b + 65536 * c + 805306368 ≡ pack (a ∷ b ∷ c ∷ 48 ∷ [])
-  few-is = omega arith
+  few_is : a + 256 * b + 65536 * c + 805306368 ≡ pack (a ∷ b ∷ c ∷ 48 ∷ [])
+  few_is = omega arith
 
-  few-low : Below 128 (a ∷ b ∷ c ∷ 48 ∷ [])
-  few-low = clear (a ∷ b ∷ c ∷ 48 ∷ []) (h.0, (h.1, (h.2, (omega arith, tt)))) (subst (λ (w : ℕ). bit_and w 2155905152 ≡ 0) few-is e)
+  few_low : Below 128 (a ∷ b ∷ c ∷ 48 ∷ [])
+  few_low = clear (a ∷ b ∷ c ∷ 48 ∷ []) (h.0, (h.1, (h.2, (omega arith, tt)))) (subst (λ (w : ℕ). bit_and w 2155905152 ≡ 0) few_is e)
 
-  pub few-room : a + 256 * b + 65536 * c + 805306368 ≤ 2139062143
-  few-room = let l = few-low in omega (arith, l)
+  pub few_room : a + 256 * b + 65536 * c + 805306368 ≤ 2139062143
+  few_room = let l = few_low in omega (arith, l)
 
   pub few : bit_and (chain (a + 256 * b + 65536 * c + 805306368) (λ (x : ℕ). x * 16843009)) 2155905152 ≡ 2155905152 → (name_byte_lem a ≡ true) × (name_byte_lem b ≡ true) × (name_byte_lem c ≡ true)
   few g =
-      let n = named (a ∷ b ∷ c ∷ 48 ∷ []) few-low (subst (λ (w : ℕ). bit_and (chain w (λ (x : ℕ). x * 16843009)) 2155905152 ≡ 2155905152) few-is g) in
+      let n = named (a ∷ b ∷ c ∷ 48 ∷ []) few_low (subst (λ (w : ℕ). bit_and (chain w (λ (x : ℕ). x * 16843009)) 2155905152 ≡ 2155905152) few_is g) in
       (n.0, n.1.0, n.1.1.0)

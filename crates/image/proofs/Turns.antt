@@ -14,9 +14,9 @@ use Rattle.rules.specs.declared.Seen.{Seen}
 use Rattle.rules.specs.declared.Seen.TheVariants.{Sound, Fault}
 use Rattle.image.specs.Rows.{dues_of, further, full, off, Right}
 use Rattle.image.specs.Within.{parts_in, short, first_of, fault_of, Told}
-use Rattle.image.proofs.Dues.{due_below, due-first, due-rest, due-full}
+use Rattle.image.proofs.Dues.{due_below, due_first, due_rest, due_full}
 use Rattle.image.proofs.Header.{or_false}
-use Rattle.image.proofs.Steps.{record-refused, parts-ended, parts-left, parts_then, parts-fault, parts_more}
+use Rattle.image.proofs.Steps.{record_refused, parts_ended, parts_left, parts_then, parts_fault, parts_more}
 use Rattle.image.proofs.Reach.{Reaches, tail_is}
 
 -- What holds where the check of the parts of a record of kind k₀ where d₀ was due comes to p, with n counted: all the parts are as those from
@@ -127,21 +127,21 @@ passed_is t size room left x w n kind e =
     }
 
 module _ (s : List ℕ) (from end levels d₀ k₀ vars p left w n : ℕ) (W : Walk s from end levels d₀ k₀ vars p left w n) where
-  due-is : w % 32 ≡ due_at W.d W.kind W.k
-  due-is = ap (λ (x : ℕ). x % 32) W.state ∙ due-first W.d W.kind W.k
+  due_is : w % 32 ≡ due_at W.d W.kind W.k
+  due_is = ap (λ (x : ℕ). x % 32) W.state ∙ due_first W.d W.kind W.k
 
-  due-low : w % 32 < 28
-  due-low = subst (λ (x : ℕ). x < 28) (sym due-is) (due_below W.d W.kind W.k)
+  due_low : w % 32 < 28
+  due_low = subst (λ (x : ℕ). x < 28) (sym due_is) (due_below W.d W.kind W.k)
 
-  pub walk-ended : ended (w % 32) p end ≡ true → parts_in levels s from end d₀ k₀ vars ≡ Sound end n
-  walk-ended e = W.same ∙ parts-ended (record_of left) s p end W.d W.kind W.k n W.fuel W.enough (subst (λ (x : ℕ). ended x p end ≡ true) due-is e)
+  pub walk_ended : ended (w % 32) p end ≡ true → parts_in levels s from end d₀ k₀ vars ≡ Sound end n
+  walk_ended e = W.same ∙ parts_ended (record_of left) s p end W.d W.kind W.k n W.fuel W.enough (subst (λ (x : ℕ). ended x p end ≡ true) due_is e)
 
   module _ (going : ended (w % 32) p end ≡ false) where
     on : ended (due_at W.d W.kind W.k) p end ≡ false
-    on = subst (λ (x : ℕ). ended x p end ≡ false) due-is going
+    on = subst (λ (x : ℕ). ended x p end ≡ false) due_is going
 
     walk-left : w % 32 ≡ 0 → parts_in levels s from end d₀ k₀ vars ≡ Fault 4 p
-    walk-left z = W.same ∙ parts-left (record_of left) s p end W.d W.kind W.k n W.fuel W.enough on (sym due-is ∙ z)
+    walk-left z = W.same ∙ parts_left (record_of left) s p end W.d W.kind W.k n W.fuel W.enough on (sym due_is ∙ z)
 
     -- A fault where something is due is 4 where nothing is.
     pub walk-told : (number : ℕ) → 0 < number → p < 4294967296 → ((w % 32 ≡ 0 → ⊥) → parts_in levels s from end d₀ k₀ vars ≡ Fault number p) → Told end (parts_in levels s from end d₀ k₀ vars) (fault_of (w % 32) number p)
@@ -155,20 +155,20 @@ module _ (s : List ℕ) (from end levels d₀ k₀ vars p left w n : ℕ) (W : W
     module _ (some : w % 32 ≡ 0 → ⊥) where
       pub walk-fault : (number place : ℕ) → record_of left s p end (w % 32) W.k n ≡ Fault number place → parts_in levels s from end d₀ k₀ vars ≡ Fault number place
       walk-fault number place e =
-          W.same ∙ parts-fault (record_of left) s p end W.d W.kind W.k n W.fuel W.enough on (λ z. some (due-is ∙ z)) number place
-          (subst (λ (x : ℕ). record_of left s p end x W.k n ≡ Fault number place) due-is e)
+          W.same ∙ parts_fault (record_of left) s p end W.d W.kind W.k n W.fuel W.enough on (λ z. some (due_is ∙ z)) number place
+          (subst (λ (x : ℕ). record_of left s p end x W.k n ≡ Fault number place) due_is e)
 
       pub walk_refused : (number : ℕ) → refusal_of (header_of s p end left (w % 32) W.k n) ≡ suc number → parts_in levels s from end d₀ k₀ vars ≡ Fault (suc number) p
       walk_refused number e =
           walk-fault (suc number) p
-          (record-refused s p end (w % 32) W.k n left (λ y. let z = sym e ∙ y in omega arith) ∙ ap (λ (x : ℕ). Fault x p) e)
+          (record_refused s p end (w % 32) W.k n left (λ y. let z = sym e ∙ y in omega arith) ∙ ap (λ (x : ℕ). Fault x p) e)
 
       module _ (free : full (w % 32) w ≡ false) where
         next-is : further (w % 32) w ≡ dues_of W.d W.kind (W.k + 1)
         next-is =
-            ap (λ (x : ℕ). further x w) due-is ∙ ap (further (due_at W.d W.kind W.k)) W.state
-            ∙ due-rest W.d W.kind W.k (λ z. some (due-is ∙ z))
-            (subst (λ (x : ℕ). full (due_at W.d W.kind W.k) x ≡ false) W.state (subst (λ (x : ℕ). full x w ≡ false) due-is free))
+            ap (λ (x : ℕ). further x w) due_is ∙ ap (further (due_at W.d W.kind W.k)) W.state
+            ∙ due_rest W.d W.kind W.k (λ z. some (due_is ∙ z))
+            (subst (λ (x : ℕ). full (due_at W.d W.kind W.k) x ≡ false) W.state (subst (λ (x : ℕ). full x w ≡ false) due_is free))
 
         pub walk_more : (q m : ℕ) → record_of left s p end (w % 32) W.k n ≡ Sound q m → p < q → q ≤ end → Walk s from end levels d₀ k₀ vars q left (further (w % 32) w) m
         walk_more q m e l h =
@@ -179,8 +179,8 @@ module _ (s : List ℕ) (from end levels d₀ k₀ vars p left w n : ℕ) (W : W
               fuel = W.fuel - 1;
               enough = omega (arith, W.enough);
               same =
-                  W.same ∙ parts_more (record_of left) s p end W.d W.kind W.k n W.fuel W.enough on (λ z. some (due-is ∙ z)) q m
-                  (subst (λ (x : ℕ). record_of left s p end x W.k n ≡ Sound q m) due-is e);
+                  W.same ∙ parts_more (record_of left) s p end W.d W.kind W.k n W.fuel W.enough on (λ z. some (due_is ∙ z)) q m
+                  (subst (λ (x : ℕ). record_of left s p end x W.k n ≡ Sound q m) due_is e);
               state = next-is;
               low = omega (arith, W.low);
             }
@@ -189,23 +189,23 @@ module _ (s : List ℕ) (from end levels d₀ k₀ vars p left w n : ℕ) (W : W
         pub walk-tail : (y : Seen) → record_of left s p end (w % 32) W.k n ≡ y → Reaches end y → p < end → ended (further (w % 32) w % 32) end end ≡ true → parts_in levels s from end d₀ k₀ vars ≡ y
         walk-tail y e r l f =
             let i = W.k + 1 in
-            W.same ∙ parts_then (record_of left) s p end W.d W.kind W.k n W.fuel W.enough on (λ z. some (due-is ∙ z))
+            W.same ∙ parts_then (record_of left) s p end W.d W.kind W.k n W.fuel W.enough on (λ z. some (due_is ∙ z))
             ∙ ap (λ (x : Seen). and_then x (λ q m. children_of (record_of left) (W.fuel - 1) s q end W.d W.kind i m))
-            (subst (λ (x : ℕ). record_of left s p end x W.k n ≡ y) due-is e)
+            (subst (λ (x : ℕ). record_of left s p end x W.k n ≡ y) due_is e)
             ∙ tail_is end y (λ q m. children_of (record_of left) (W.fuel - 1) s q end W.d W.kind i m) r
-            (λ m. parts-ended (record_of left) s end end W.d W.kind i m (W.fuel - 1) (omega (arith, W.enough))
-            (subst (λ (x : ℕ). ended x end end ≡ true) (ap (λ (x : ℕ). x % 32) next-is ∙ due-first W.d W.kind i) f))
+            (λ m. parts_ended (record_of left) s end end W.d W.kind i m (W.fuel - 1) (omega (arith, W.enough))
+            (subst (λ (x : ℕ). ended x end end ≡ true) (ap (λ (x : ℕ). x % 32) next-is ∙ due_first W.d W.kind i) f))
 
   -- The header, by the code's tests.
   module _ (t : List ℕ) (R : Right t) (bound : end ≤ 65536) (room : 6 ≤ end - p) (some : w % 32 ≡ 0 → ⊥) where
     stands-is : undue (w % 32) (kind_at s p) ≡ off t (w % 32) (kind_at s p)
-    stands-is = sym (R.stands (w % 32) (kind_at s p) due-low ∙ rw (ne_eqb (w % 32) 0 some) refl)
+    stands-is = sym (R.stands (w % 32) (kind_at s p) due_low ∙ rw (ne_eqb (w % 32) 0 some) refl)
 
     full_is : leb (class_of (w % 32)).most W.k ≡ full (w % 32) w
     full_is =
-        ap (λ (x : ℕ). leb (class_of x).most W.k) due-is
-        ∙ due-full W.d W.kind W.k (λ z. some (due-is ∙ z)) (omega (arith, W.low))
-        ∙ ap (full (due_at W.d W.kind W.k)) (sym W.state) ∙ ap (λ (x : ℕ). full x w) (sym due-is)
+        ap (λ (x : ℕ). leb (class_of x).most W.k) due_is
+        ∙ due_full W.d W.kind W.k (λ z. some (due_is ∙ z)) (omega (arith, W.low))
+        ∙ ap (full (due_at W.d W.kind W.k)) (sym W.state) ∙ ap (λ (x : ℕ). full x w) (sym due_is)
 
     frame_is : unframed s p end ≡ short (le32 s p) (end - p)
     unfolding unframed short

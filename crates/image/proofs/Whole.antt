@@ -14,21 +14,21 @@ use Rattle.rules.specs.declared.Seen.{Seen}
 use Rattle.rules.specs.declared.Seen.TheVariants.{Sound, Fault}
 use Rattle.image.specs.Leaves.{leaf}
 use Rattle.image.specs.Within.{parts_in}
-use Rattle.image.proofs.Header.{refuse-0, refuse-2, refuse-3}
-use Rattle.image.proofs.Steps.{apart, record-refused, part-open}
+use Rattle.image.proofs.Header.{refuse_0, refuse_2, refuse_3}
+use Rattle.image.proofs.Steps.{apart, record_refused, part_open}
 
 module _ (s : List ℕ) where
-  pub check-long : 65536 < length s → Fault 1 0 ≡ check_of s
+  pub check_long : 65536 < length s → Fault 1 0 ≡ check_of s
   unfolding pick check_of
-  check-long h = rw (lt-ltb 65536 (length s) h)
+  check_long h = rw (lt-ltb 65536 (length s) h)
 
-  left-whole : (q m : ℕ) → q < length s → whole_of s (Sound q m) ≡ Fault 4 q
+  left_whole : (q m : ℕ) → q < length s → whole_of s (Sound q m) ≡ Fault 4 q
   unfolding pick whole_of
-  left-whole q m l = rw (lt-ltb q (length s) l)
+  left_whole q m l = rw (lt-ltb q (length s) l)
 
-  no-more-whole : (q m : ℕ) → length s ≤ q → whole_of s (Sound q m) ≡ Sound q m
+  no_more_whole : (q m : ℕ) → length s ≤ q → whole_of s (Sound q m) ≡ Sound q m
   unfolding pick whole_of
-  no-more-whole q m l = rw (le-ltb q (length s) l)
+  no_more_whole q m l = rw (le-ltb q (length s) l)
 
   module _ (h : length s ≤ 65536) where
     whole_is : (a : Seen) → record_of 64 s 0 (length s) Contract 0 0 ≡ a → whole_of s a ≡ check_of s
@@ -38,25 +38,25 @@ module _ (s : List ℕ) where
     check-refused : (number : ℕ) → refusal_of (header_of s 0 (length s) 64 Contract 0 0) ≡ suc number → Fault (suc number) 0 ≡ check_of s
     unfolding whole_of
     check-refused number e =
-        ap (λ (x : ℕ). Fault x 0) (sym e) ∙ whole_is _ (record-refused s 0 (length s) Contract 0 0 64 (λ y. let z = sym e ∙ y in omega arith))
+        ap (λ (x : ℕ). Fault x 0) (sym e) ∙ whole_is _ (record_refused s 0 (length s) Contract 0 0 64 (λ y. let z = sym e ∙ y in omega arith))
 
     pub check-unframed : unframed s 0 (length s) ≡ true → Fault 2 0 ≡ check_of s
-    check-unframed f = check-refused 1 (refuse-2 s 0 (length s) 64 Contract 0 0 f)
+    check-unframed f = check-refused 1 (refuse_2 s 0 (length s) 64 Contract 0 0 f)
 
     -- Where the Contract is due, its kind alone decides of a framed header.
     module _ (f : unframed s 0 (length s) ≡ false) where
       pub check-other : (kind_at s 0 ≡ 16 → ⊥) → Fault 3 0 ≡ check_of s
       unfolding undue class_of
-      check-other z = check-refused 2 (refuse-3 s 0 (length s) 64 Contract 0 0 f refl (apart (kind_at s 0) 16 z))
+      check-other z = check-refused 2 (refuse_3 s 0 (length s) 64 Contract 0 0 f refl (apart (kind_at s 0) 16 z))
 
     module _ (f : unframed s 0 (length s) ≡ false) (k : kind_at s 0 ≡ 16) where
       none : refusal_of (header_of s 0 (length s) 64 Contract 0 0) ≡ 0
       unfolding pick undue class_of crowded counts own_of
-      none = refuse-0 s 0 (length s) 64 Contract 0 0 f refl (rw k refl) (rw k refl) (rw k refl)
+      none = refuse_0 s 0 (length s) 64 Contract 0 0 f refl (rw k refl) (rw k refl) (rw k refl)
 
       contract-parts : record_of 64 s 0 (length s) Contract 0 0 ≡ parts_in 63 s 6 (4 + le32 s 0) Contract 16 0
       unfolding pick leaf vars_in_lem counts
-      contract-parts = part-open s 0 (length s) Contract 0 0 64 none (ap leaf k) ∙ rw k refl
+      contract-parts = part_open s 0 (length s) Contract 0 0 64 none (ap leaf k) ∙ rw k refl
 
       pub check-fault : (number place : ℕ) → parts_in 63 s 6 (4 + le32 s 0) Contract 16 0 ≡ Fault number place → Fault number place ≡ check_of s
       unfolding whole_of
@@ -67,7 +67,7 @@ module _ (s : List ℕ) where
         ends = contract-parts ∙ g ∙ ap (λ (x : ℕ). Sound x m) z
 
         pub check-left : 4 + le32 s 0 < length s → Fault 4 (4 + le32 s 0) ≡ check_of s
-        check-left l = sym (left-whole (4 + le32 s 0) m l) ∙ whole_is _ ends
+        check-left l = sym (left_whole (4 + le32 s 0) m l) ∙ whole_is _ ends
 
         pub check_sound : length s ≤ 4 + le32 s 0 → Sound (4 + le32 s 0) m ≡ check_of s
-        check_sound l = sym (no-more-whole (4 + le32 s 0) m l) ∙ whole_is _ ends
+        check_sound l = sym (no_more_whole (4 + le32 s 0) m l) ∙ whole_is _ ends

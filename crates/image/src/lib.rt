@@ -1,4 +1,6 @@
 // The image check (01: The contract image; rows 1 to 7 of What comes back): any bytes whatsoever are sound or have a first fault.
+#![tactic(auto)]
+
 mod grammar;
 mod read;
 

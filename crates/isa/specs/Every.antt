@@ -21,13 +21,13 @@ module _ {A : Type 0} (f : ℕ → A → Bool) where
   every i [] = true
   every i (x ∷ xs) = both (f i x) (every (suc i) xs)
 
-  every-from : (xs : List A) (i : ℕ) → T (every i xs) → (d : A) (k : ℕ) → k < length xs → T (f (i + k) (slice_index_or xs k d))
-  every-from [] i t d k h = absurd (not-suc-le-zero h)
-  every-from (x ∷ xs) i t d zero h = subst (λ (m : ℕ). T (f m x)) (sym (add-zero i)) (both_left (f i x) (every (suc i) xs) t)
-  every-from (x ∷ xs) i t d (suc k) h =
+  every_from : (xs : List A) (i : ℕ) → T (every i xs) → (d : A) (k : ℕ) → k < length xs → T (f (i + k) (slice_index_or xs k d))
+  every_from [] i t d k h = absurd (not-suc-le-zero h)
+  every_from (x ∷ xs) i t d zero h = subst (λ (m : ℕ). T (f m x)) (sym (add-zero i)) (both_left (f i x) (every (suc i) xs) t)
+  every_from (x ∷ xs) i t d (suc k) h =
       subst (λ (m : ℕ). T (f m (slice_index_or xs k d))) (suc-add i k ∙ sym (add-suc i k))
-      (every-from xs (suc i) (both_right (f i x) (every (suc i) xs) t) d k (le_of_suc-le-suc h))
+      (every_from xs (suc i) (both_right (f i x) (every (suc i) xs) t) d k (le_of_suc-le-suc h))
 
   -- So it holds of the entry at an index.
-  pub every-at : (xs : List A) → T (every 0 xs) → (d : A) (k : ℕ) → k < length xs → T (f k (slice_index_or xs k d))
-  every-at xs t d k h = subst (λ (m : ℕ). T (f m (slice_index_or xs k d))) (zero-add k) (every-from xs 0 t d k h)
+  pub every_at : (xs : List A) → T (every 0 xs) → (d : A) (k : ℕ) → k < length xs → T (f k (slice_index_or xs k d))
+  every_at xs t d k h = subst (λ (m : ℕ). T (f m (slice_index_or xs k d))) (zero-add k) (every_from xs 0 t d k h)

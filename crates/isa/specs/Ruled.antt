@@ -17,7 +17,7 @@ use Rattle.isa.specs.declared.Decoded.TheVariants.{Read, Refused}
 use Rattle.isa.specs.declared.Fields.TheVariants as fields
 use Rattle.isa.specs.Word.{number_of, opcodes, opcode_of, read_as_lem, decode_of, alone, decode_any_of, patch_as, patch_of}
 use Rattle.isa.specs.Facts.{row_of, fact_of, height_in, fact_in, Ruled, opcode_by, decode_by, decode_any_by, patch_by}
-use Rattle.isa.specs.Every.{every, every-at}
+use Rattle.isa.specs.Every.{every, every_at}
 use Rattle.isa.specs.Laws.{opcode_number, number_below, each_opcode, decodes}
 
 -- A fact as the entry that says it.
@@ -56,33 +56,33 @@ change_is Ret = refl
 
 -- Each part of an entry.
 module _ (a b c d e : Bool) (h : ℕ) where
-  bit-0 : (bit a + 2 * bit b + 4 * bit c + 8 * bit d + 16 * bit e + 32 * h) / 1 % 2 ≡ bit a
-  bit-0 = omega (arith, bit_low a, bit_low b, bit_low c, bit_low d, bit_low e)
+  bit_0 : (bit a + 2 * bit b + 4 * bit c + 8 * bit d + 16 * bit e + 32 * h) / 1 % 2 ≡ bit a
+  bit_0 = omega (arith, bit_low a, bit_low b, bit_low c, bit_low d, bit_low e)
 
-  bit-1 : (bit a + 2 * bit b + 4 * bit c + 8 * bit d + 16 * bit e + 32 * h) / 2 % 2 ≡ bit b
-  bit-1 = omega (arith, bit_low a, bit_low b, bit_low c, bit_low d, bit_low e)
+  bit_1 : (bit a + 2 * bit b + 4 * bit c + 8 * bit d + 16 * bit e + 32 * h) / 2 % 2 ≡ bit b
+  bit_1 = omega (arith, bit_low a, bit_low b, bit_low c, bit_low d, bit_low e)
 
-  bit-2 : (bit a + 2 * bit b + 4 * bit c + 8 * bit d + 16 * bit e + 32 * h) / 4 % 2 ≡ bit c
-  bit-2 = omega (arith, bit_low a, bit_low b, bit_low c, bit_low d, bit_low e)
+  bit_2 : (bit a + 2 * bit b + 4 * bit c + 8 * bit d + 16 * bit e + 32 * h) / 4 % 2 ≡ bit c
+  bit_2 = omega (arith, bit_low a, bit_low b, bit_low c, bit_low d, bit_low e)
 
-  bit-3 : (bit a + 2 * bit b + 4 * bit c + 8 * bit d + 16 * bit e + 32 * h) / 8 % 2 ≡ bit d
-  bit-3 = omega (arith, bit_low a, bit_low b, bit_low c, bit_low d, bit_low e)
+  bit_3 : (bit a + 2 * bit b + 4 * bit c + 8 * bit d + 16 * bit e + 32 * h) / 8 % 2 ≡ bit d
+  bit_3 = omega (arith, bit_low a, bit_low b, bit_low c, bit_low d, bit_low e)
 
-  bit-4 : (bit a + 2 * bit b + 4 * bit c + 8 * bit d + 16 * bit e + 32 * h) / 16 % 2 ≡ bit e
-  bit-4 = omega (arith, bit_low a, bit_low b, bit_low c, bit_low d, bit_low e)
+  bit_4 : (bit a + 2 * bit b + 4 * bit c + 8 * bit d + 16 * bit e + 32 * h) / 16 % 2 ≡ bit e
+  bit_4 = omega (arith, bit_low a, bit_low b, bit_low c, bit_low d, bit_low e)
 
-  bits-5 : (bit a + 2 * bit b + 4 * bit c + 8 * bit d + 16 * bit e + 32 * h) / 32 ≡ h
-  bits-5 = omega (arith, bit_low a, bit_low b, bit_low c, bit_low d, bit_low e)
+  bits_5 : (bit a + 2 * bit b + 4 * bit c + 8 * bit d + 16 * bit e + 32 * h) / 32 ≡ h
+  bits_5 = omega (arith, bit_low a, bit_low b, bit_low c, bit_low d, bit_low e)
 
 entry_says : (f : Fact) → fact_in (entry_of f) ≡ f
 unfolding fact_in entry_of
 entry_says f = λ i. record {
-  known = bit_is _ _ (bit-4 f.rd f.rs1 f.rs2 f.imm f.known (change f.height)) i;
-  rd = bit_is _ _ (bit-0 f.rd f.rs1 f.rs2 f.imm f.known (change f.height)) i;
-  rs1 = bit_is _ _ (bit-1 f.rd f.rs1 f.rs2 f.imm f.known (change f.height)) i;
-  rs2 = bit_is _ _ (bit-2 f.rd f.rs1 f.rs2 f.imm f.known (change f.height)) i;
-  imm = bit_is _ _ (bit-3 f.rd f.rs1 f.rs2 f.imm f.known (change f.height)) i;
-  height = (ap height_in (bits-5 f.rd f.rs1 f.rs2 f.imm f.known (change f.height)) ∙ change_is f.height) i;
+  known = bit_is _ _ (bit_4 f.rd f.rs1 f.rs2 f.imm f.known (change f.height)) i;
+  rd = bit_is _ _ (bit_0 f.rd f.rs1 f.rs2 f.imm f.known (change f.height)) i;
+  rs1 = bit_is _ _ (bit_1 f.rd f.rs1 f.rs2 f.imm f.known (change f.height)) i;
+  rs2 = bit_is _ _ (bit_2 f.rd f.rs1 f.rs2 f.imm f.known (change f.height)) i;
+  imm = bit_is _ _ (bit_3 f.rd f.rs1 f.rs2 f.imm f.known (change f.height)) i;
+  height = (ap height_in (bits_5 f.rd f.rs1 f.rs2 f.imm f.known (change f.height)) ∙ change_is f.height) i;
 }
 
 -- 02: P7: the rule over a whole table is one test, which is computed: each entry is that of its byte.
@@ -95,7 +95,7 @@ unfolding ruled_by
 ruled t l h = record {
   says = λ n b.
       let g : n < length t = omega (arith, l) in
-      ap fact_in (eqb→eq (slice_index t n) (entry_of (fact_of (opcode_of n))) (every-at ruled_by t h 0 n g)) ∙ entry_says (fact_of (opcode_of n));
+      ap fact_in (eqb→eq (slice_index t n) (entry_of (fact_of (opcode_of n))) (every_at ruled_by t h 0 n g)) ∙ entry_says (fact_of (opcode_of n));
 }
 
 -- A match on a number that has passed k.

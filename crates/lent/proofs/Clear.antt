@@ -5,7 +5,7 @@ use Prim.Native.Nat.{ℕ, suc, ◌+◌, ◌≤◌}
 use native.Mathlib.Nat.{le_antisymm}
 use lib.ListN.{length, set, replicate, length-replicate, replicate-append-replicate}
 use Rattle.rules.specs.Lent.{over, cleared}
-use Rattle.lent.specs.Over.{over-more, length_over}
+use Rattle.lent.specs.Over.{over_more, length_over}
 
 abbrev pub Cleared : List ℕ → List ℕ → ℕ → Type 0
 Cleared s₀ s i = (i ≤ length s₀) × (s ≡ over (replicate i 0) s₀)
@@ -17,7 +17,7 @@ pub more : (s₀ s : List ℕ) (i : ℕ) → Cleared s₀ s i → set s i 0 ≡ 
 more s₀ s i h =
     ap (λ r. set r i 0) h.1
     ∙ ap (λ n. set (over (replicate i 0) s₀) n 0) (sym (length-replicate i 0))
-    ∙ over-more (replicate i 0) 0 s₀
+    ∙ over_more (replicate i 0) 0 s₀
     ∙ ap (λ r. over r s₀) (replicate-append-replicate i 1 0)
 
 whole : (s : List ℕ) → over (replicate (length s) 0) s ≡ cleared s

@@ -1,4 +1,6 @@
 // The lines of a listing (02: P3), one for each word.
+#![tactic(auto)]
+
 ghost use Rattle.std.specs.Prelude.{◌≡◌, ◌+◌, ◌≤◌, length};
 ghost use Rattle.isa.specs.Word.{top_of};
 ghost use Rattle.rules.specs.Lent.{over};

@@ -14,7 +14,7 @@ use lib.Seq.{take_all, take-suc, length-take-le, set-get_or}
 use lib.Dec.{leb}
 use borrow.Author.Tests.{leb-true, leb-false}
 use Rattle.rules.specs.Lent.{over}
-use Rattle.lent.specs.Over.{length_over, over-more, getD-over-past}
+use Rattle.lent.specs.Over.{length_over, over_more, get_d_over_past}
 use Rattle.link.specs.Closed.{Shut, Closed, along}
 use Rattle.link.specs.Linked.{linked, kept_word, linked_from, length_linked, linked_more}
 
@@ -31,7 +31,7 @@ module _ {F c₀ : List ℕ} {end : ℕ} {c : List ℕ} {i : ℕ} (v : Linking F
   done = length_linked F 0 (take i c₀) ∙ length-take-le i c₀ (omega (arith, v.within, v.room))
 
   pub here : get_or c i 0 ≡ get_or c₀ i 0
-  here = ap (λ (l : List ℕ). get_or l i 0) v.same ∙ getD-over-past (linked_from F 0 (take i c₀)) c₀ i 0 (omega (arith, done))
+  here = ap (λ (l : List ℕ). get_or l i 0) v.same ∙ get_d_over_past (linked_from F 0 (take i c₀)) c₀ i 0 (omega (arith, done))
 
   pub more : (w : ℕ) → w ≡ linked F i (get_or c i 0) → i < end → set c i w ≡ over (linked_from F 0 (take (i + 1) c₀)) c₀
   more w e h =
@@ -40,7 +40,7 @@ module _ {F c₀ : List ℕ} {end : ℕ} {c : List ℕ} {i : ℕ} (v : Linking F
       ap (λ (x : ℕ). set c i x) (e ∙ ap (λ (x : ℕ). linked F i x) here)
       ∙ ap (λ (r : List ℕ). set r i (linked F i (get_or c₀ i 0))) v.same
       ∙ ap (λ (n : ℕ). set (over (linked_from F 0 (take i c₀)) c₀) n (linked F i (get_or c₀ i 0))) (sym done)
-      ∙ over-more (linked_from F 0 (take i c₀)) (linked F i (get_or c₀ i 0)) c₀
+      ∙ over_more (linked_from F 0 (take i c₀)) (linked F i (get_or c₀ i 0)) c₀
       ∙ ap (λ (n : ℕ). over (linked_from F 0 (take i c₀) ++ linked F n (get_or c₀ i 0) ∷ []) c₀) (sym (zero-add (length (take i c₀)) ∙ l))
       ∙ ap (λ (r : List ℕ). over r c₀) (sym (linked_more F 0 (take i c₀) (get_or c₀ i 0)))
       ∙ ap (λ (r : List ℕ). over (linked_from F 0 r) c₀) (sym (take-suc c₀ i 0 k) ∙ ap (λ (n : ℕ). take n c₀) (sym (add-one i)))

@@ -1,4 +1,6 @@
 // The listing (01: Sample contracts): an image on standard input, its words or its refusal on standard output.
+#![tactic(auto)]
+
 use libc::{STDERR_FILENO, STDIN_FILENO, STDOUT_FILENO};
 use rules::Answer;
 

@@ -32,6 +32,6 @@ module _ (p : ℕ) (f : Name) (n : ℕ) (m : Option Misfit) (ps : List Typ) (t :
   unfolding fitted pick
   fit_count h = rw (← e, ne_eqb k n h)
 
-  pub fit-type : {r : Res Typ} → k ≡ n → r ≡ fits f m t → r ≡ fitted p f n m ps t
+  pub fit_type : {r : Res Typ} → k ≡ n → r ≡ fits f m t → r ≡ fitted p f n m ps t
   unfolding fitted pick
-  fit-type h q = rw (← e, eq-eqb k n h) q
+  fit_type h q = rw (← e, eq-eqb k n h) q

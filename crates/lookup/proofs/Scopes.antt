@@ -32,47 +32,47 @@ module _ (x a : Name) (t : Typ) (Γ : Env) where
   not_named true e = rw e
   not_named false e = refl
 
-  pub not-here : (c : ℕ) → eq_name a x ≡ false → find x (pick (eqb c (key_of a)) (with_name a t Γ) Γ) ≡ find x Γ
+  pub not_here : (c : ℕ) → eq_name a x ≡ false → find x (pick (eqb c (key_of a)) (with_name a t Γ) Γ) ≡ find x Γ
   unfolding listed
-  not-here c e = not_named (eqb c (key_of a)) e
+  not_here c e = not_named (eqb c (key_of a)) e
 
-  not-keyed : (c : ℕ) (b : Bool) → eqb c (key_of a) ≡ b → (c ≡ key_of x → ⊥) → find x (listed b) ≡ find x Γ
+  not_keyed : (c : ℕ) (b : Bool) → eqb c (key_of a) ≡ b → (c ≡ key_of x → ⊥) → find x (listed b) ≡ find x Γ
   unfolding listed pick
-  not-keyed c true q n = not_named true (differ a x (λ h. n (eqb-true c (key_of a) q ∙ h)))
-  not-keyed c false q n = refl
+  not_keyed c true q n = not_named true (differ a x (λ h. n (eqb-true c (key_of a) q ∙ h)))
+  not_keyed c false q n = refl
 
   pub no_key : (c : ℕ) → (c ≡ key_of x → ⊥) → find x (pick (eqb c (key_of a)) (with_name a t Γ) Γ) ≡ find x Γ
   unfolding listed
-  no_key c n = not-keyed c (eqb c (key_of a)) refl n
+  no_key c n = not_keyed c (eqb c (key_of a)) refl n
 
 module _ (img env : List ℕ) where
-  pub env-more : (k : ℕ) → 2 ≤ k → env_of img env k ≡ pick (eqb (get_or env (k - 2) 0) (key_of (name_at img (place_in (get_or env (k - 2 + 1) 0)))))
+  pub env_more : (k : ℕ) → 2 ≤ k → env_of img env k ≡ pick (eqb (get_or env (k - 2) 0) (key_of (name_at img (place_in (get_or env (k - 2 + 1) 0)))))
       (with_name (name_at img (place_in (get_or env (k - 2 + 1) 0))) (type_beside img (get_or env (k - 2 + 1) 0)) (env_of img env (k - 2))) (env_of img env (k - 2))
   unfolding env_of
-  env-more zero h = absurd (omega arith)
-  env-more (suc zero) h = absurd (omega arith)
-  env-more (suc (suc k)) h = let e : suc (suc k) - 2 ≡ k = omega arith in simp e
+  env_more zero h = absurd (omega arith)
+  env_more (suc zero) h = absurd (omega arith)
+  env_more (suc (suc k)) h = let e : suc (suc k) - 2 ≡ k = omega arith in simp e
 
-  env-none : (k : ℕ) → k < 2 → env_of img env k ≡ []
+  env_none : (k : ℕ) → k < 2 → env_of img env k ≡ []
   unfolding env_of
-  env-none zero h = refl
-  env-none (suc zero) h = refl
-  env-none (suc (suc k)) h = absurd (omega arith)
+  env_none zero h = refl
+  env_none (suc zero) h = refl
+  env_none (suc (suc k)) h = absurd (omega arith)
 
   module _ (x : Name) (k : ℕ) where
     pub find-hit : 2 ≤ k → get_or env (k - 2) 0 ≡ key_of x → eq_name (name_at img (place_in (get_or env (k - 2 + 1) 0))) x ≡ true
         → find x (env_of img env k) ≡ some (type_beside img (get_or env (k - 2 + 1) 0))
-    find-hit h q e = rw (env-more k h) (here x _ _ _ _ q e)
+    find-hit h q e = rw (env_more k h) (here x _ _ _ _ q e)
 
     pub find-miss : 2 ≤ k → eq_name (name_at img (place_in (get_or env (k - 2 + 1) 0))) x ≡ false → find x (env_of img env k) ≡ find x (env_of img env (k - 2))
-    find-miss h e = rw (env-more k h) (not-here x _ _ _ _ e)
+    find-miss h e = rw (env_more k h) (not_here x _ _ _ _ e)
 
     pub find-other : 2 ≤ k → (get_or env (k - 2) 0 ≡ key_of x → ⊥) → find x (env_of img env k) ≡ find x (env_of img env (k - 2))
-    find-other h n = rw (env-more k h) (no_key x _ _ _ _ n)
+    find-other h n = rw (env_more k h) (no_key x _ _ _ _ n)
 
     pub find_none : k < 2 → find x (env_of img env k) ≡ none
     unfolding find
-    find_none h = rw (env-none k h)
+    find_none h = rw (env_none k h)
 
 -- a type is told by its tag and its name
 typ_tag : (t : Typ) → typ_of (tag_of t) (name_of t) ≡ t
@@ -99,11 +99,11 @@ tag_small (Typ.struct x) = omega arith
 
 -- the tag and the place of the name of a type, as one number
 module _ (img : List ℕ) (a b : ℕ) (t : Ty) (ta : a ≡ tag_of (ty_of img t)) where
-  pub type-fits : length img ≤ 65536 → b ≤ length img → a + 8 * b < 1099511627776
-  type-fits small h = omega (arith, ta, tag_small (ty_of img t))
+  pub type_fits : length img ≤ 65536 → b ≤ length img → a + 8 * b < 1099511627776
+  type_fits small h = omega (arith, ta, tag_small (ty_of img t))
 
-  type-back : name_at img b ≡ name_of (ty_of img t) → typ_of ((a + 8 * b) % 8) (name_at img ((a + 8 * b) / 8)) ≡ ty_of img t
-  type-back tb =
+  type_back : name_at img b ≡ name_of (ty_of img t) → typ_of ((a + 8 * b) % 8) (name_at img ((a + 8 * b) / 8)) ≡ ty_of img t
+  type_back tb =
       let y : (a + 8 * b) % 8 ≡ a = omega (arith, ta, tag_small (ty_of img t)) in
       let z : (a + 8 * b) / 8 ≡ b = omega (arith, ta, tag_small (ty_of img t)) in
       rw (y, z, ta, tb) (typ_tag (ty_of img t))
@@ -130,7 +130,7 @@ module _ (img : List ℕ) (a b : ℕ) (t : Ty) (ta : a ≡ tag_of (ty_of img t))
     one_more : env_of img more (top + 2) ≡ with_name (name_at img x) (ty_of img t) (env_of img e top)
     one_more =
         let z : top + 2 - 2 ≡ top = omega arith in
-        rw (env-more img more (top + 2) (omega arith), z, key-there ∙ tq, cell-there, tv.name, tv.number, type-back tb, env_frame img e more top below)
+        rw (env_more img more (top + 2) (omega arith), z, key-there ∙ tq, cell-there, tv.name, tv.number, type_back tb, env_frame img e more top below)
         (keyed (name_at img x) (ty_of img t) (env_of img e top))
 
     pub pushed : Pushed img e (set (set e top q) (top + 1) v) top x t (top + 2)

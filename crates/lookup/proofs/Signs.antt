@@ -17,7 +17,7 @@ use Rattle.rules.specs.Read.{places_in, places_from, name_in, field_at, fields_a
 use Rattle.lookup.specs.declared.Callee.TheVariants as callee
 use Rattle.lookup.specs.declared.Due.TheVariants as due
 use Rattle.lookup.specs.Answers.{sig_at, type_in, due_of}
-use Rattle.lookup.specs.Places.{places-more, places-end, length_map}
+use Rattle.lookup.specs.Places.{places_more, places_end, length_map}
 
 -- a table of what is read at places, searched by the names at the places
 last_map : {A : Type 0} (f : ℕ → A) (n : A → Name) (m : ℕ → Name) → ((p : ℕ) → n (f p) ≡ m p) → (x : Name) (ps : List ℕ) → last n x (map f ps) ≡ mapped f (last m x ps)
@@ -31,39 +31,39 @@ last_map f n m e x (p ∷ ps) = rw (last_map f n m e x ps, e p) (or_map f (last 
     or_map f none false p = refl
 
 module _ (img : List ℕ) where
-  pub field-name : (p : ℕ) → field_name (field_at img p) ≡ name_in img p
+  pub field_name_lem : (p : ℕ) → field_name (field_at img p) ≡ name_in img p
   unfolding field_at
-  field-name p = refl
+  field_name_lem p = refl
 
-  map-field : (o : Option ℕ) → mapped (λ (f : Field). type_named f.type) (mapped (field_at img) o) ≡ mapped (type_in img) o
+  map_field : (o : Option ℕ) → mapped (λ (f : Field). type_named f.type) (mapped (field_at img) o) ≡ mapped (type_in img) o
   unfolding mapped field_at
-  map-field (some p) = refl
-  map-field none = refl
+  map_field (some p) = refl
+  map_field none = refl
 
-  pub field-last : (x : Name) (s : ℕ) {o : Option ℕ} → o ≡ last (name_in img) x (places_in 64 img (second img s)) → mapped (type_in img) o ≡ field_type_lem x (struct_at img s)
+  pub field_last : (x : Name) (s : ℕ) {o : Option ℕ} → o ≡ last (name_in img) x (places_in 64 img (second img s)) → mapped (type_in img) o ≡ field_type_lem x (struct_at img s)
   unfolding field_type_lem struct_at fields_at
-  field-last x s h = rw (last_map (field_at img) field_name (name_in img) field-name x (places_in 64 img (second img s)), ← h) (sym (map-field _))
+  field_last x s h = rw (last_map (field_at img) field_name (name_in img) field_name_lem x (places_in 64 img (second img s)), ← h) (sym (map_field _))
 
-  map-fields : (ps : List ℕ) → map (type_in img) ps ≡ map (λ (q : Field). type_named q.type) (map (field_at img) ps)
+  map_fields : (ps : List ℕ) → map (type_in img) ps ≡ map (λ (q : Field). type_named q.type) (map (field_at img) ps)
   unfolding field_at
-  map-fields [] = refl
-  map-fields (p ∷ ps) = ap (λ (l : List Typ). type_in img p ∷ l) (map-fields ps)
+  map_fields [] = refl
+  map_fields (p ∷ ps) = ap (λ (l : List Typ). type_in img p ∷ l) (map_fields ps)
 
-  pub user-dues : (p : ℕ) → map (type_in img) (places_in 512 img (second img p)) ≡ params_of (sig_at img (callee.User p))
+  pub user_dues : (p : ℕ) → map (type_in img) (places_in 512 img (second img p)) ≡ params_of (sig_at img (callee.User p))
   unfolding params_of sig_at sig_of function_at fields_at
-  user-dues p = map-fields (places_in 512 img (second img p))
+  user_dues p = map_fields (places_in 512 img (second img p))
 
-  pub count-fields : (p e k : ℕ) {n : ℕ} → n ≡ length (places_from k img p e) → n ≡ length (due_of img (due.Fields p e k))
+  pub count_fields : (p e k : ℕ) {n : ℕ} → n ≡ length (places_from k img p e) → n ≡ length (due_of img (due.Fields p e k))
   unfolding due_of
-  count-fields p e k h = h ∙ sym (length_map (type_in img) (places_from k img p e))
+  count_fields p e k h = h ∙ sym (length_map (type_in img) (places_from k img p e))
 
-  pub gives-type : (p : ℕ) → inside img (third img p) < after img (third img p) → type_named (name_in img (third img p)) ≡ ret_type (function_at img p).ret
+  pub gives_type : (p : ℕ) → inside img (third img p) < after img (third img p) → type_named (name_in img (third img p)) ≡ ret_type (function_at img p).ret
   unfolding function_at nth mapped ret_type
-  gives-type p h = rw (places-more img 1 _ _ (λ z. omega arith) h)
+  gives_type p h = rw (places_more img 1 _ _ (λ z. omega arith) h)
 
   pub gives_none : (p : ℕ) → after img (third img p) ≤ inside img (third img p) → Typ.void ≡ ret_type (function_at img p).ret
   unfolding function_at nth mapped ret_type
-  gives_none p h = rw (places-end img 1 _ _ h)
+  gives_none p h = rw (places_end img 1 _ _ h)
 
 -- so many parameters of type u64
 pub count_repeated : (k : ℕ) → k ≡ length (repeated k)
@@ -96,13 +96,13 @@ none_arity (some b) u h = absurd (let z : ◌≡◌ {A = ℕ} 0 1 = cc in omega 
 none_arity none u h = refl
 
 module _ (C : Contract) (x : Name) where
-  pub sig-builtin : {k : ℕ} → some k ≡ mapped arity (builtin x) → some (sig (repeated k) Typ.u64) ≡ signature C x
+  pub sig_builtin : {k : ℕ} → some k ≡ mapped arity (builtin x) → some (sig (repeated k) Typ.u64) ≡ signature C x
   unfolding signature
-  sig-builtin h = some_arity (builtin x) _ h
+  sig_builtin h = some_arity (builtin x) _ h
 
-  pub sig-user : {f : Function} → none ≡ mapped arity (builtin x) → some f ≡ last function_name x C.functions → some (sig_of f) ≡ signature C x
+  pub sig_user : {f : Function} → none ≡ mapped arity (builtin x) → some f ≡ last function_name x C.functions → some (sig_of f) ≡ signature C x
   unfolding signature mapped
-  sig-user h k = sym (none_arity (builtin x) _ h ∙ rw (← k))
+  sig_user h k = sym (none_arity (builtin x) _ h ∙ rw (← k))
 
   pub sig_none : none ≡ mapped arity (builtin x) → none ≡ last function_name x C.functions → none ≡ signature C x
   unfolding signature mapped

@@ -31,17 +31,17 @@ nameless Typ.unknown h = refl
 nameless (Typ.struct x) h = absurd (omega arith)
 
 module _ (A B : Typ) where
-  pub low-tags : {x y : ℕ} → x ≡ tag_of A → y ≡ tag_of B → x ≡ y → x < 5 → true ≡ eq_typ A B
+  pub low_tags : {x y : ℕ} → x ≡ tag_of A → y ≡ tag_of B → x ≡ y → x < 5 → true ≡ eq_typ A B
   unfolding eq_typ eq_name
-  low-tags p q e h = rw (nameless A (omega arith), nameless B (omega arith), ← p, ← q, eq-eqb _ _ e)
+  low_tags p q e h = rw (nameless A (omega arith), nameless B (omega arith), ← p, ← q, eq-eqb _ _ e)
 
-  pub same-tags : {x y : ℕ} {n m : Name} → x ≡ tag_of A → y ≡ tag_of B → x ≡ y → n ≡ name_of A → m ≡ name_of B → eq_name n m ≡ eq_typ A B
+  pub same_tags : {x y : ℕ} {n m : Name} → x ≡ tag_of A → y ≡ tag_of B → x ≡ y → n ≡ name_of A → m ≡ name_of B → eq_name n m ≡ eq_typ A B
   unfolding eq_typ
-  same-tags p q e h k = rw (← p, ← q, ← h, ← k, eq-eqb _ _ e)
+  same_tags p q e h k = rw (← p, ← q, ← h, ← k, eq-eqb _ _ e)
 
-  pub other-tags : {x y : ℕ} → x ≡ tag_of A → y ≡ tag_of B → (x ≡ y → ⊥) → false ≡ eq_typ A B
+  pub other_tags : {x y : ℕ} → x ≡ tag_of A → y ≡ tag_of B → (x ≡ y → ⊥) → false ≡ eq_typ A B
   unfolding eq_typ
-  other-tags p q e = rw (← p, ← q, ne_eqb _ _ e)
+  other_tags p q e = rw (← p, ← q, ne_eqb _ _ e)
 
   module _ {s : Bool} (e : s ≡ eq_typ A B) where
     pub clash-same : s ≡ true → false ≡ clash A B

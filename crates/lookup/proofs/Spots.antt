@@ -11,16 +11,16 @@ use Rattle.rules.specs.Bytes.{pick, Name, eq_name, inside, after}
 use Rattle.rules.specs.Tables.{or_else, last, first_index}
 use Rattle.rules.specs.Tree.{Struct, Contract}
 use Rattle.rules.specs.Types.{Typ}
-use Rattle.rules.specs.Analyse.{field_name, structNamed}
+use Rattle.rules.specs.Analyse.{field_name, struct_named}
 use Rattle.rules.specs.Layout.{declared}
 use Rattle.rules.specs.Read.{places_from, places_in, name_in, field_at, fields_at, struct_at, second}
 use Rattle.before.specs.Fields.{some_none, some_same}
 use Rattle.notes.specs.Notes.{noted, left, spot_in_lem, marked}
 use Rattle.lookup.specs.declared.Spot.TheVariants as spot
 use Rattle.lookup.specs.Fields.{first_of, last_of, Spotted}
-use Rattle.lookup.specs.Places.{places-more}
+use Rattle.lookup.specs.Places.{places_more}
 use Rattle.lookup.proofs.Searches.{or_none, last_step, last_end, first_step, first_end, first_map}
-use Rattle.lookup.proofs.Signs.{field-name}
+use Rattle.lookup.proofs.Signs.{field_name_lem}
 
 -- v, if something was found: f is not 64
 pub seen : (f v : ℕ) → Option ℕ
@@ -40,9 +40,9 @@ walk_first img l x = record { few = omega arith; first = refl; last = sym (or_no
 
 -- one Field more, the n-th, at p
 module _ (is : Bool) (n p f q : ℕ) (h : n < 64) where
-  also-first : seen (pick is (pick (eqb f 64) n f) f) (pick is (pick (eqb f 64) n f) f) ≡ or_else (seen f f) (pick is (some n) none)
+  also_first : seen (pick is (pick (eqb f 64) n f) f) (pick is (pick (eqb f 64) n f) f) ≡ or_else (seen f f) (pick is (some n) none)
   unfolding seen or_else pick
-  also-first = by is (eqb f 64) refl
+  also_first = by is (eqb f 64) refl
     where
       by : (b c : Bool) → eqb f 64 ≡ c → seen (pick b (pick c n f) f) (pick b (pick c n f) f) ≡ or_else (pick c none (some f)) (pick b (some n) none)
       by true true e = rw (ne_eqb n 64 (λ z. omega (arith, h, z)))
@@ -50,9 +50,9 @@ module _ (is : Bool) (n p f q : ℕ) (h : n < 64) where
       by false true e = rw e
       by false false e = rw e
 
-  also-last : seen (pick is (pick (eqb f 64) n f) f) (pick is p q) ≡ or_else (pick is (some p) none) (seen f q)
+  also_last : seen (pick is (pick (eqb f 64) n f) f) (pick is p q) ≡ or_else (pick is (some p) none) (seen f q)
   unfolding seen or_else pick
-  also-last = by is (eqb f 64) refl
+  also_last = by is (eqb f 64) refl
     where
       by : (b c : Bool) → eqb f 64 ≡ c → seen (pick b (pick c n f) f) (pick b p q) ≡ or_else (pick b (some p) none) (pick c none (some q))
       by true true e = rw (ne_eqb n 64 (λ z. omega (arith, h, z)))
@@ -60,9 +60,9 @@ module _ (is : Bool) (n p f q : ℕ) (h : n < 64) where
       by false true e = rw e
       by false false e = rw e
 
-  also-below : f ≤ 64 → pick is (pick (eqb f 64) n f) f ≤ 64
+  also_below : f ≤ 64 → pick is (pick (eqb f 64) n f) f ≤ 64
   unfolding pick
-  also-below g = by is (eqb f 64)
+  also_below g = by is (eqb f 64)
     where
       by : (b c : Bool) → pick b (pick c n f) f ≤ 64
       by true true = omega (arith, h)
@@ -71,16 +71,16 @@ module _ (is : Bool) (n p f q : ℕ) (h : n < 64) where
 
 module _ (img : List ℕ) (l : ℕ) (x : Name) (end p n f q : ℕ) (w : Walk img l x end p n f q) where
   -- one more
-  pub walk-on : {is : Bool} {f' q' : ℕ} → n < 64 → p < end → is ≡ eq_name (name_in img p) x → f' ≡ pick is (pick (eqb f 64) n f) f → q' ≡ pick is p q → Walk img l x end (after img p) (n + 1) f' q'
-  walk-on {is} h g e i j = rw (i, j) (record {
+  pub walk_on : {is : Bool} {f' q' : ℕ} → n < 64 → p < end → is ≡ eq_name (name_in img p) x → f' ≡ pick is (pick (eqb f 64) n f) f → q' ≡ pick is p q → Walk img l x end (after img p) (n + 1) f' q'
+  walk_on {is} h g e i j = rw (i, j) (record {
     few = omega arith;
-    first = w.first ∙ first_step (name_in img) x p _ _ n (seen f f) _ next (also-first is n p f q h ∙ ap (λ b. or_else (seen f f) (pick b (some n) none)) e);
-    last = w.last ∙ last_step (name_in img) x p _ _ (seen f q) _ next (also-last is n p f q h ∙ ap (λ b. or_else (pick b (some p) none) (seen f q)) e);
-    below = also-below is n p f q h w.below;
+    first = w.first ∙ first_step (name_in img) x p _ _ n (seen f f) _ next (also_first is n p f q h ∙ ap (λ b. or_else (seen f f) (pick b (some n) none)) e);
+    last = w.last ∙ last_step (name_in img) x p _ _ (seen f q) _ next (also_last is n p f q h ∙ ap (λ b. or_else (pick b (some p) none) (seen f q)) e);
+    below = also_below is n p f q h w.below;
   })
     where
       next : places_from (64 - n) img p end ≡ p ∷ places_from (64 - (n + 1)) img (after img p) end
-      next = let z : 64 - (n + 1) ≡ 64 - n - 1 = omega arith in rw z (places-more img (64 - n) p end (λ y. omega arith) g)
+      next = let z : 64 - (n + 1) ≡ 64 - n - 1 = omega arith in rw z (places_more img (64 - n) p end (λ y. omega arith) g)
 
   -- none is left: it was found, or not
   pub walked_at : places_from (64 - n) img p end ≡ [] → (f ≡ 64 → ⊥) → Spotted img l x (spot.At f q)
@@ -102,14 +102,14 @@ module _ (img : List ℕ) (l : ℕ) (x : Name) (end p n f q : ℕ) (w : Walk img
 -- 02: P2: where the field stands in the struct at s
 pub spot_in : (img : List ℕ) (s : ℕ) (x : Name) {o : Option ℕ} → o ≡ first_index (name_in img) 0 x (places_in 64 img (second img s)) → spot_in_lem (some (struct_at img s)) x ≡ o
 unfolding spot_in_lem struct_at fields_at
-spot_in img s x e = first_map (field_at img) field_name (name_in img) (field-name img) x 0 (places_in 64 img (second img s)) ∙ sym e
+spot_in img s x e = first_map (field_at img) field_name (name_in img) (field_name_lem img) x 0 (places_in 64 img (second img s)) ∙ sym e
 
 module _ (C : Contract) (s x : Name) (N : List ℕ) (at : ℕ) where
   -- the note of an access to a struct that is declared, and to one that is not
-  pub marked-at : {d : Struct} {n : ℕ} → some d ≡ structNamed C s → spot_in_lem (some d) x ≡ some n → noted N at n ≡ marked N at (spot_in_lem (declared C (Typ.struct s)) x)
+  pub marked_at : {d : Struct} {n : ℕ} → some d ≡ struct_named C s → spot_in_lem (some d) x ≡ some n → noted N at n ≡ marked N at (spot_in_lem (declared C (Typ.struct s)) x)
   unfolding declared marked
-  marked-at h e = rw (← h, e)
+  marked_at h e = rw (← h, e)
 
-  pub marked-none : none ≡ structNamed C s → left N ≡ marked N at (spot_in_lem (declared C (Typ.struct s)) x)
+  pub marked_none : none ≡ struct_named C s → left N ≡ marked N at (spot_in_lem (declared C (Typ.struct s)) x)
   unfolding declared marked spot_in_lem
-  marked-none h = rw (← h)
+  marked_none h = rw (← h)

@@ -8,20 +8,20 @@ use Rattle.rules.specs.Bytes.{after}
 use Rattle.rules.specs.Read.{places_from}
 
 module _ (img : List ℕ) where
-  pub places-zero : (k p e : ℕ) → k ≡ 0 → places_from k img p e ≡ []
+  pub places_zero : (k p e : ℕ) → k ≡ 0 → places_from k img p e ≡ []
   unfolding places_from
-  places-zero zero p e h = refl
-  places-zero (suc k) p e h = absurd (omega arith)
+  places_zero zero p e h = refl
+  places_zero (suc k) p e h = absurd (omega arith)
 
-  pub places-end : (k p e : ℕ) → e ≤ p → places_from k img p e ≡ []
+  pub places_end : (k p e : ℕ) → e ≤ p → places_from k img p e ≡ []
   unfolding places_from
-  places-end zero p e h = refl
-  places-end (suc k) p e h = simp (le-ltb _ _ h)
+  places_end zero p e h = refl
+  places_end (suc k) p e h = simp (le-ltb _ _ h)
 
-  pub places-more : (k p e : ℕ) → (k ≡ 0 → ⊥) → p < e → places_from k img p e ≡ p ∷ places_from (k - 1) img (after img p) e
+  pub places_more : (k p e : ℕ) → (k ≡ 0 → ⊥) → p < e → places_from k img p e ≡ p ∷ places_from (k - 1) img (after img p) e
   unfolding places_from
-  places-more zero p e h l = absurd (h refl)
-  places-more (suc k) p e h l = simp (lt-ltb _ _ l, sub-one)
+  places_more zero p e h l = absurd (h refl)
+  places_more (suc k) p e h l = simp (lt-ltb _ _ l, sub-one)
 
 pub length_map : {A B : Type 0} (f : A → B) (l : List A) → length (map f l) ≡ length l
 length_map f [] = refl

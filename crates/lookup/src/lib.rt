@@ -1,4 +1,6 @@
 // What the analysis (001: sema.rs) looks up: types, names in scope, structs, fields and functions. A name is the place of its record.
+#![tactic(auto)]
+
 ghost use Rattle.std.specs.Prelude.{◌≡◌, List, ℕ, ◌≤◌, ◌+◌, eqb, length, get_or, drop};
 ghost use Rattle.rules.specs.Bytes.{pick, name_at, inside, after};
 ghost use Rattle.rules.specs.Tables.{last, nth, mapped};
@@ -16,7 +18,7 @@ ghost use Rattle.lookup.specs.Fields.{Spotted, Accessed};
 use tables::Found;
 
 // 001: Type. A struct's type has the place of its name.
-#[derive(Drop)]
+#[derive(Clone, Copy)]
 pub enum Ty {
     U64,
     Bool,
@@ -26,27 +28,27 @@ pub enum Ty {
     Struct(usize),
 }
 
-#[derive(Drop)]
+#[derive(Clone, Copy)]
 pub enum Where {
     At(usize),
     Nowhere,
 }
 
 // A field of a struct: its first position, and the place of its last Field.
-#[derive(Drop)]
+#[derive(Clone, Copy)]
 enum Spot {
     At(usize, usize),
     Nowhere,
 }
 
-#[derive(Drop)]
+#[derive(Clone, Copy)]
 pub enum Got {
     Type(Ty),
     Missing,
 }
 
 // A builtin with the number of its parameters; a function of the image with its place.
-#[derive(Drop)]
+#[derive(Clone, Copy)]
 pub enum Callee {
     Builtin(usize),
     User(usize),
@@ -54,14 +56,14 @@ pub enum Callee {
 }
 
 // The parameters that are still due: so many of type u64; or the Fields from a place to an end, so many at most.
-#[derive(Drop)]
+#[derive(Clone, Copy)]
 pub enum Due {
     Words(usize),
     Fields(usize, usize, usize),
 }
 
 // Why a contract is refused, with the places of what the Rust's text says.
-#[derive(Drop)]
+#[derive(Clone, Copy)]
 pub enum Fault {
     Ident(usize, usize),
     Target(usize, usize),
@@ -78,20 +80,20 @@ pub enum Fault {
     Operands(usize),
 }
 
-#[derive(Drop)]
+#[derive(Clone, Copy)]
 pub enum Typed {
     Is(Ty),
     Refused(Fault),
 }
 
-#[derive(Drop)]
+#[derive(Clone, Copy)]
 pub enum Checked {
     Fine,
     Refused(Fault),
 }
 
 // The first argument that does not fit its parameter: its index and its place.
-#[derive(Drop)]
+#[derive(Clone, Copy)]
 pub enum Misfit {
     Fits,
     At(usize, usize),

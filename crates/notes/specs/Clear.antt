@@ -11,9 +11,9 @@ use Rattle.rules.specs.Tree.{Expr, Exprs, Inits, Stmt, Stmts, Struct, Function, 
 use Rattle.rules.specs.Types.{Typ, Env, with_name}
 use Rattle.rules.specs.Refusal.{Res, ok, bad, ◌>>=◌, known}
 use Rattle.rules.specs.Analyse as analysis
-use Rattle.rules.specs.Meant.{Access, behind, ofExpr, ofExprs, ofInits, ofStmt, ofStmts, ofFunction, ofFunctions, accesses, base_at}
+use Rattle.rules.specs.Meant.{Access, behind, ofExpr, ofExprs, ofInits, ofStmt, ofStmts, of_function, of_functions, accesses, base_at}
 use Rattle.rules.specs.Layout.{layouts, with_position, positions, declared, among, choices}
-use Rattle.rules.specs.Ambiguous.{differs, apart, is_ambiguous_lem, inExpr, inExprs, inInits, inStmt, inStmts, inFunctions, first_ambiguous_lem}
+use Rattle.rules.specs.Ambiguous.{differs, apart, is_ambiguous_lem, inExpr, inExprs, inInits, inStmt, inStmts, in_functions, first_ambiguous_lem}
 use Rattle.records.specs.Names.{name_eq, name_refl, never}
 use Rattle.bounds.specs.Held.{Each}
 use Rattle.before.specs.Fields.{some_none}
@@ -52,10 +52,10 @@ each_has (a ∷ l) k f = (f a.place a.field (itself a l), each_has l k (λ p x h
 
 module _ (C : Contract) where
   -- What is found by its place and field has its position.
-  found-sure : (p : ℕ) (x : Name) (l : List Access) → Each (Sure C) l → has p x l ≡ true → (k : ℕ) × (spot_in_lem (declared C (base_at p x l)) x ≡ some k)
+  found_sure : (p : ℕ) (x : Name) (l : List Access) → Each (Sure C) l → has p x l ≡ true → (k : ℕ) × (spot_in_lem (declared C (base_at p x l)) x ≡ some k)
   unfolding base_at pick spot_of has
-  found-sure p x [] h e = never e
-  found-sure p x (a ∷ l) h e = by (eqb a.place p) (eq_name a.field x) refl e (found-sure p x l h.1)
+  found_sure p x [] h e = never e
+  found_sure p x (a ∷ l) h e = by (eqb a.place p) (eq_name a.field x) refl e (found_sure p x l h.1)
     where
       by : (b c : Bool) → eq_name a.field x ≡ c → ((b and c) or has p x l) ≡ true → (has p x l ≡ true → (k : ℕ) × (spot_in_lem (declared C (base_at p x l)) x ≡ some k))
           → (k : ℕ) × (spot_in_lem (declared C (pick (b and c) a.base (base_at p x l))) x ≡ some k)
@@ -67,15 +67,15 @@ module _ (C : Contract) where
   abbrev Clear : Access → Type 0
   Clear a = is_ambiguous_lem C a.place a.field ≡ false
 
-  clear-one : (p : ℕ) (x : Name) (k : ℕ) → spot_in_lem (declared C (base_at p x (accesses C))) x ≡ some k → is_ambiguous_lem C p x ≡ false
+  clear_one : (p : ℕ) (x : Name) (k : ℕ) → spot_in_lem (declared C (base_at p x (accesses C))) x ≡ some k → is_ambiguous_lem C p x ≡ false
   unfolding is_ambiguous_lem choices apart differs
-  clear-one p x k e = rw (one_choice x k (declared C (base_at p x (accesses C))) e (layouts C.structs))
+  clear_one p x k e = rw (one_choice x k (declared C (base_at p x (accesses C))) e (layouts C.structs))
 
-  clear-each : Each (Sure C) (accesses C) → (l : List Access) → Each (λ (a : Access). has a.place a.field (accesses C) ≡ true) l → Each Clear l
-  clear-each h [] g = tt
-  clear-each h (a ∷ l) g =
-      let s = found-sure a.place a.field (accesses C) h g.0 in
-      (clear-one a.place a.field s.0 s.1, clear-each h l g.1)
+  clear_each : Each (Sure C) (accesses C) → (l : List Access) → Each (λ (a : Access). has a.place a.field (accesses C) ≡ true) l → Each Clear l
+  clear_each h [] g = tt
+  clear_each h (a ∷ l) g =
+      let s = found_sure a.place a.field (accesses C) h g.0 in
+      (clear_one a.place a.field s.0 s.1, clear_each h l g.1)
 
 -- An answer behind an answer.
 then_ok : {A B : Type 0} (m : Res A) (f : A → Res B) (b : B) → (m >>= f) ≡ ok b → (a : A) × ((m ≡ ok a) × (f a ≡ ok b))
@@ -93,9 +93,9 @@ unfolding behind
 each_behind P f e h = rw e at h
 
 module _ (C : Contract) where
-  here-not : (p : ℕ) (b : Bool) (o : Option ℕ) → b ≡ false → o ≡ none → pick b (some p) o ≡ none
+  here_not : (p : ℕ) (b : Bool) (o : Option ℕ) → b ≡ false → o ≡ none → pick b (some p) o ≡ none
   unfolding pick
-  here-not p b o e h = rw (e, h)
+  here_not p b o e h = rw (e, h)
 
   mutual
     unfolding analysis.expr analysis.exprs analysis.inits ofExpr ofExprs ofInits inExpr inExprs inInits
@@ -109,9 +109,9 @@ module _ (C : Contract) where
     expr-none (Expr.field-access p e x) Γ t h c =
         let g = then_ok (analysis.expr C e Γ) _ t h in
         let k = each_parts (Clear C) (ofExpr C e Γ) _ c in
-        here-not p _ _ (each_behind (Clear C) _ g.1.1 (each_behind (Clear C) _ g.1.0 k.1)).0 (expr-none e Γ g.0 g.1.0 k.0)
+        here_not p _ _ (each_behind (Clear C) _ g.1.1 (each_behind (Clear C) _ g.1.0 k.1)).0 (expr-none e Γ g.0 g.1.0 k.0)
     expr-none (Expr.literal p x is) Γ t h c =
-        let g = then_ok (known _ (analysis.structNamed C x)) _ t h in
+        let g = then_ok (known _ (analysis.struct_named C x)) _ t h in
         let k = then_ok (analysis.inits C g.0 is Γ) _ t g.1.1 in
         inits-none g.0 is Γ k.0 k.1.0 c
     expr-none (Expr.binary p a o b) Γ t h c =
@@ -184,16 +184,16 @@ module _ (C : Contract) where
           let k = each_parts (Clear C) (ofStmt C ret s Γ) _ c in
           both_none (stmt-none s Γ g.0 g.1.0 k.0) (stmts-none ss g.0 Δ g.1.1 (each_behind (Clear C) _ g.1.0 k.1))
 
-  functions-none : (fs : List Function) → analysis.functions C fs ≡ ok tt → Each (Clear C) (ofFunctions C fs) → inFunctions C fs ≡ none
-  unfolding analysis.functions analysis.function ofFunctions ofFunction inFunctions
-  functions-none [] h c = refl
-  functions-none (f ∷ fs) h c =
+  functions_none : (fs : List Function) → analysis.functions C fs ≡ ok tt → Each (Clear C) (of_functions C fs) → in_functions C fs ≡ none
+  unfolding analysis.functions analysis.function of_functions of_function in_functions
+  functions_none [] h c = refl
+  functions_none (f ∷ fs) h c =
       let g = then_ok (analysis.function C f) _ tt h in
       let j = then_ok (analysis.stmts C (analysis.ret_type f.ret) f.body (analysis.with_params f.params [])) _ _ g.1.0 in
-      let k = each_parts (Clear C) (ofFunction C f) _ c in
-      both_none (stmts-none _ f.body _ j.0 j.1.0 k.0) (functions-none fs g.1.1 k.1)
+      let k = each_parts (Clear C) (of_function C f) _ c in
+      both_none (stmts-none _ f.body _ j.0 j.1.0 k.0) (functions_none fs g.1.1 k.1)
 
   -- 02: P2: no 30 where every access has its struct.
-  pub sure-clear : analysis.analyse C ≡ ok tt → Each (Sure C) (accesses C) → first_ambiguous_lem C ≡ none
+  pub sure_clear : analysis.analyse C ≡ ok tt → Each (Sure C) (accesses C) → first_ambiguous_lem C ≡ none
   unfolding analysis.analyse accesses first_ambiguous_lem
-  sure-clear h s = functions-none C.functions h (clear-each C s (accesses C) (each_has (accesses C) (accesses C) (λ p x e. e)))
+  sure_clear h s = functions_none C.functions h (clear_each C s (accesses C) (each_has (accesses C) (accesses C) (λ p x e. e)))

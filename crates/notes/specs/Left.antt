@@ -27,9 +27,9 @@ use Rattle.bounds.specs.Cuts.{cut, declared_few}
 use Rattle.bounds.specs.Sparse.{Apart, Sparse}
 use Rattle.bounds.specs.ContractOf.{uncut, accesses_sparse}
 use Rattle.before.specs.Fields.{some_none, some_same}
-use Rattle.before.specs.Meant.{meant-has}
+use Rattle.before.specs.Meant.{meant_has}
 use Rattle.notes.specs.Notes.{noted, left, read_as_lem, note_at, spot_in_lem, spot_of, marked, written, field_in, Noted, Blank}
-use Rattle.notes.specs.Clear.{Sure, one_choice, sure-clear}
+use Rattle.notes.specs.Clear.{Sure, one_choice, sure_clear}
 
 -- One list after another.
 pub written_append : (C : Contract) (N : List ℕ) (l k : List Access) → written C N (l ++ k) ≡ written C (written C N l) k
@@ -152,10 +152,10 @@ module _ (C : Contract) where
   searched [] = false
   searched (a ∷ l) = is_none (spot_of C a) or searched l
 
-  marked-last : (N : List ℕ) (p : ℕ) (o : Option ℕ) → length N ≡ 21846 → p / 3 < 21845 → get_or (marked N p o) 21845 0 ≡ pick (is_none o) 255 (get_or N 21845 0)
+  marked_last : (N : List ℕ) (p : ℕ) (o : Option ℕ) → length N ≡ 21846 → p / 3 < 21845 → get_or (marked N p o) 21845 0 ≡ pick (is_none o) 255 (get_or N 21845 0)
   unfolding marked noted left pick is_none
-  marked-last N p none h g = get_or-set_same N 21845 255 0 (omega (arith, h))
-  marked-last N p (some k) h g = get_or-set_other N (p / 3) 21845 _ 0 (λ z. omega (arith, g, z))
+  marked_last N p none h g = get_or-set_same N 21845 255 0 (omega (arith, h))
+  marked_last N p (some k) h g = get_or-set_other N (p / 3) 21845 _ 0 (λ z. omega (arith, g, z))
 
   either : (b c : Bool) (v : ℕ) → pick c 255 (pick b 255 v) ≡ pick (b or c) 255 v
   unfolding pick
@@ -170,13 +170,13 @@ module _ (C : Contract) where
   written_last N [] h w = refl
   written_last N (a ∷ l) h w =
       written_last (marked N a.place (spot_of C a)) l (marked_long N a.place (spot_of C a) ∙ h) w.1
-      ∙ (ap (pick (searched l) 255) (marked-last N a.place (spot_of C a) h w.0) ∙ either (is_none (spot_of C a)) (searched l) (get_or N 21845 0))
+      ∙ (ap (pick (searched l) 255) (marked_last N a.place (spot_of C a) h w.0) ∙ either (is_none (spot_of C a)) (searched l) (get_or N 21845 0))
 
   -- none is: each has its position
-  all-sure : (l : List Access) → searched l ≡ false → Each (Sure C) l
+  all_sure : (l : List Access) → searched l ≡ false → Each (Sure C) l
   unfolding is_none searched
-  all-sure [] h = tt
-  all-sure (a ∷ l) h = by (spot_of C a) refl h (all-sure l)
+  all_sure [] h = tt
+  all_sure (a ∷ l) h = by (spot_of C a) refl h (all_sure l)
     where
       by : (o : Option ℕ) → spot_of C a ≡ o → (is_none o or searched l) ≡ false → (searched l ≡ false → Each (Sure C) l) → Sure C a × Each (Sure C) l
       by none e g r = never (sym g)
@@ -220,7 +220,7 @@ none_there img N p h e = rw e h
 -- What analysis of a checked image leaves in notes that said nothing, if it accepts it.
 pub noted_all : (img : List ℕ) (q m : ℕ) → check_of img ≡ Sound q m → analyse (contract_at img) ≡ ok tt → (N : List ℕ) → Blank N → Noted img (written (contract_at img) N (accesses (contract_at img)))
 noted_all img q m e f N z = record {
-  clear = λ y. sure-clear C f (all-sure C (accesses C) (quiet (searched C (accesses C)) (sym last ∙ y)));
+  clear = λ y. sure_clear C f (all_sure C (accesses C) (quiet (searched C (accesses C)) (sym last ∙ y)));
   is = λ p. by p (eqb (p / 3) 21845) refl;
 }
   where
@@ -262,24 +262,24 @@ module _ (img N : List ℕ) (n : Noted img N) (p : ℕ) where
   sought none h e l = refl
 
   -- Not noted: the old search.
-  pub noted-none : note_at N p ≡ none → choices (contract_at img) p (field_in img p) ≡ positions (field_in img p) (layouts (contract_at img).structs)
+  pub noted_none : note_at N p ≡ none → choices (contract_at img) p (field_in img p) ≡ positions (field_in img p) (layouts (contract_at img).structs)
   unfolding choices meant
-  noted-none e = sought meant (λ d f. meant-has (contract_at img) p (field_in img p) d f) (sym (n.is p) ∙ e) (layouts (contract_at img).structs)
+  noted_none e = sought meant (λ d f. meant_has (contract_at img) p (field_in img p) d f) (sym (n.is p) ∙ e) (layouts (contract_at img).structs)
 
   -- So generation reads an offset off them,
-  pub offset-one : (k : ℕ) → note_at N p ≡ some k → offset (contract_at img) p (field_in img p) ≡ k * 8
+  pub offset_one : (k : ℕ) → note_at N p ≡ some k → offset (contract_at img) p (field_in img p) ≡ k * 8
   unfolding offset first_of
-  offset-one k e = rw (noted_one k e)
+  offset_one k e = rw (noted_one k e)
 
-  pub offset-none : note_at N p ≡ none → offset (contract_at img) p (field_in img p) ≡ first_of (positions (field_in img p) (layouts (contract_at img).structs)) * 8
+  pub offset_none : note_at N p ≡ none → offset (contract_at img) p (field_in img p) ≡ first_of (positions (field_in img p) (layouts (contract_at img).structs)) * 8
   unfolding offset
-  offset-none e = rw (noted-none e)
+  offset_none e = rw (noted_none e)
 
   -- and 30 is not given where there is a note.
-  pub clear-one : (k : ℕ) → note_at N p ≡ some k → is_ambiguous_lem (contract_at img) p (field_in img p) ≡ false
+  pub clear_one : (k : ℕ) → note_at N p ≡ some k → is_ambiguous_lem (contract_at img) p (field_in img p) ≡ false
   unfolding is_ambiguous_lem apart differs
-  clear-one k e = rw (noted_one k e)
+  clear_one k e = rw (noted_one k e)
 
   pub clear_none : note_at N p ≡ none → is_ambiguous_lem (contract_at img) p (field_in img p) ≡ apart (positions (field_in img p) (layouts (contract_at img).structs))
   unfolding is_ambiguous_lem
-  clear_none e = rw (noted-none e)
+  clear_none e = rw (noted_none e)

@@ -1,6 +1,8 @@
 // What analysis leaves for generation and for 30 (02: P2): for each access the position of its field in the struct that its base is of.
 // A byte for three places: 0, or 64 times the place's remainder and one more than the position. Two accesses of a checked image never share one.
 // The last byte is no access's: it is set where some base is of no declared struct type, so that the field is searched.
+#![tactic(auto)]
+
 ghost use Rattle.std.specs.Prelude.{◌≡◌, ◌<◌, get_or, eqb};
 ghost use Rattle.notes.specs.Notes.{noted, left, read_as_lem, note_at, note_of};
 
@@ -8,7 +10,7 @@ ghost use Rattle.notes.specs.Notes.{noted, left, read_as_lem, note_at, note_of};
 pub const SIZE: usize = 21846;
 
 // The position of an access's field, if it is noted.
-#[derive(Drop)]
+#[derive(Clone, Copy)]
 pub enum Note {
     At(usize),
     Nothing,

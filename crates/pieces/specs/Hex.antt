@@ -7,7 +7,7 @@ use Rattle.std.specs.Prelude.{◌≡◌, refl, List, [], ◌∷◌, ◌++◌, �
 use Rattle.std.proofs.Common.{sym, ap, ◌∙◌, append_assoc, append-nil, add-one, arith, length-append, lt-ltb, le-ltb}
 use Rattle.rules.specs.Bytes.{pick}
 use Rattle.rules.specs.Lines.{glyph, hex_digits}
-use Rattle.lent.specs.Over.{overAt, overAt-one, overAt-nil, overAt-first, overAt-swap, length-overAt}
+use Rattle.lent.specs.Over.{over_at, over_at_one, over_at_nil, over_at_first, over_at_swap, length_over_at}
 use Rattle.pieces.specs.Lays.{Lays}
 
 pub glyph_low : (d : ℕ) → d < 10 → glyph d ≡ 48 + d
@@ -27,14 +27,14 @@ pub record Hexing (left v n : ℕ) (s t : List ℕ) (i rest : ℕ) : Type 0 wher
   pub tail : List ℕ
   pub within : i ≤ left
   pub whole : hex_digits left v ≡ hex_digits i rest ++ tail
-  pub laid : t ≡ overAt (n + i) tail s
+  pub laid : t ≡ over_at (n + i) tail s
 
 pub hexing_start : (left v n : ℕ) (s : List ℕ) → Hexing left v n s s left v
-hexing_start left v n s = record { tail = []; within = omega arith; whole = sym (append-nil (hex_digits left v)); laid = sym (overAt-nil (n + left) s) }
+hexing_start left v n s = record { tail = []; within = omega arith; whole = sym (append-nil (hex_digits left v)); laid = sym (over_at_nil (n + left) s) }
 
 -- One digit in front of those that lie there.
-front : (k g : ℕ) (l s : List ℕ) → set (overAt (k + 1) l s) k g ≡ overAt k (g ∷ l) s
-front k g l s = sym (overAt-one k g (overAt (k + 1) l s)) ∙ overAt-swap k (k + 1) (g ∷ []) l s (omega arith) ∙ ap (overAt (k + 1) l) (overAt-one k g s) ∙ sym (overAt-first k g l s)
+front : (k g : ℕ) (l s : List ℕ) → set (over_at (k + 1) l s) k g ≡ over_at k (g ∷ l) s
+front k g l s = sym (over_at_one k g (over_at (k + 1) l s)) ∙ over_at_swap k (k + 1) (g ∷ []) l s (omega arith) ∙ ap (over_at (k + 1) l) (over_at_one k g s) ∙ sym (over_at_first k g l s)
 
 pub hexing_more : {left v n : ℕ} {s t : List ℕ} {j i rest : ℕ} (g : ℕ) → Hexing left v n s t j rest → j ≡ suc i → g ≡ glyph (rest % 16) → Hexing left v n s (set t (n + i) g) i (rest / 16)
 unfolding hex_digits
@@ -44,15 +44,15 @@ hexing_more {left} {v} {n} {s} {t} {j} {i} {rest} g h p e =
       tail = g ∷ h.tail;
       within = omega (arith, p, h.within);
       whole = h.whole ∙ ap (λ m. hex_digits m rest ++ h.tail) p ∙ ap (λ x. (hex_digits i (rest / 16) ++ (x ∷ [])) ++ h.tail) (sym e) ∙ append_assoc (hex_digits i (rest / 16)) (g ∷ []) h.tail;
-      laid = ap (λ r. set r (n + i) g) (h.laid ∙ ap (λ m. overAt m h.tail s) k) ∙ front (n + i) g h.tail s;
+      laid = ap (λ r. set r (n + i) g) (h.laid ∙ ap (λ m. over_at m h.tail s) k) ∙ front (n + i) g h.tail s;
     }
 
 pub hexing_length : {left v n : ℕ} {s t : List ℕ} {i rest : ℕ} → Hexing left v n s t i rest → length t ≡ length s
-hexing_length {left} {v} {n} {s} {t} {i} h = ap length h.laid ∙ length-overAt (n + i) h.tail s
+hexing_length {left} {v} {n} {s} {t} {i} h = ap length h.laid ∙ length_over_at (n + i) h.tail s
 
 pub hexing_end : {left v n : ℕ} {s t : List ℕ} {i rest : ℕ} → Hexing left v n s t i rest → i ≡ 0 → Lays n (hex_digits left v) s t (n + left)
 unfolding hex_digits
 hexing_end {left} {v} {n} {s} {t} {i} {rest} h z =
     let e : hex_digits left v ≡ h.tail = h.whole ∙ ap (λ k. hex_digits k rest ++ h.tail) z in
     let k : n + i ≡ n = omega (arith, z) in
-    record { laid = h.laid ∙ ap (λ j. overAt j h.tail s) k ∙ ap (λ l. overAt n l s) (sym e); past = ap (λ k. n + k) (sym (length_hex left v)) }
+    record { laid = h.laid ∙ ap (λ j. over_at j h.tail s) k ∙ ap (λ l. over_at n l s) (sym e); past = ap (λ k. n + k) (sym (length_hex left v)) }

@@ -1,4 +1,6 @@
 // Bytes written piece by piece into a lent slice, each behind the one before it. The slice has room for them.
+#![tactic(auto)]
+
 ghost use Rattle.std.specs.Prelude.{◌≡◌, [], ◌∷◌, ◌+◌, ◌≤◌, ◌<◌, length};
 ghost use Rattle.rules.specs.Texts.{digits, decimal};
 ghost use Rattle.rules.specs.Lines.{hex_digits};

@@ -1,6 +1,6 @@
 -- Readings at the image's end: past it a byte is 0.
---     word_out, word-one, word_two, word-three    four bytes of which none, one, two or three are there
---     word-near, kind-near, name-near             what starts past the end may as well start at the end
+--     word_out, word_one, word_two, word_three    four bytes of which none, one, two or three are there
+--     word_near, kind_near, name_near             what starts past the end may as well start at the end
 -- Assumes nothing.
 use mathlib.Core.List.{List}
 use mathlib.Core.Path.{◌≡◌, refl, sym, ap, ◌∙◌}
@@ -12,40 +12,40 @@ use Rattle.records.specs.Small.{word_bytes}
 use Rattle.records.proofs.Eights.{by_cases}
 
 module _ (img : List ℕ) where
-  byte-out : (i : ℕ) → length img ≤ i → get_or img i 0 ≡ 0
-  byte-out i h = get_or-eq_default img 0 h
+  byte_out : (i : ℕ) → length img ≤ i → get_or img i 0 ≡ 0
+  byte_out i h = get_or-eq_default img 0 h
 
-  le16-out : (i : ℕ) → length img ≤ i → le16 img i ≡ 0
+  le16_out : (i : ℕ) → length img ≤ i → le16 img i ≡ 0
   unfolding le16
-  le16-out i h = omega (arith, byte-out i h, byte-out (i + 1) (omega arith))
+  le16_out i h = omega (arith, byte_out i h, byte_out (i + 1) (omega arith))
 
   pub word_out : (i : ℕ) → length img ≤ i → le32 img i ≡ 0
   unfolding le32
-  word_out i h = omega (arith, le16-out i h, le16-out (i + 2) (omega arith))
+  word_out i h = omega (arith, le16_out i h, le16_out (i + 2) (omega arith))
 
-  pub word-three : (i : ℕ) → length img ≤ i + 3 → le32 img i ≡ get_or img i 0 + 256 * get_or img (i + 1) 0 + 65536 * get_or img (i + 2) 0
-  word-three i h = omega (arith, word_bytes img i, byte-out (i + 3) h)
+  pub word_three : (i : ℕ) → length img ≤ i + 3 → le32 img i ≡ get_or img i 0 + 256 * get_or img (i + 1) 0 + 65536 * get_or img (i + 2) 0
+  word_three i h = omega (arith, word_bytes img i, byte_out (i + 3) h)
 
   pub word_two : (i : ℕ) → length img ≤ i + 2 → le32 img i ≡ get_or img i 0 + 256 * get_or img (i + 1) 0
-  word_two i h = omega (arith, word-three i (omega arith), byte-out (i + 2) h)
+  word_two i h = omega (arith, word_three i (omega arith), byte_out (i + 2) h)
 
-  pub word-one : (i : ℕ) → length img ≤ i + 1 → le32 img i ≡ get_or img i 0
-  word-one i h = omega (arith, word_two i (omega arith), byte-out (i + 1) h)
+  pub word_one : (i : ℕ) → length img ≤ i + 1 → le32 img i ≡ get_or img i 0
+  word_one i h = omega (arith, word_two i (omega arith), byte_out (i + 1) h)
 
   near : (f : ℕ → ℕ) → ((i : ℕ) → length img ≤ i → f i ≡ 0) → (i j : ℕ) → j ≡ min i (length img) → f j ≡ f i
   near f out i j e = by_cases (f j ≡ f i) (length img) i
       (λ h. out j (omega arith) ∙ sym (out i h))
       (λ h. ap f (omega arith))
 
-  pub word-near : (i j : ℕ) → j ≡ min i (length img) → le32 img j ≡ le32 img i
-  word-near = near (le32 img) word_out
+  pub word_near : (i j : ℕ) → j ≡ min i (length img) → le32 img j ≡ le32 img i
+  word_near = near (le32 img) word_out
 
-  pub kind-near : (i j : ℕ) → j ≡ min i (length img) → kind_at img j ≡ kind_at img i
-  kind-near = near (λ (i : ℕ). kind_at img i) (λ i h. le16-out (i + 4) (omega arith))
+  pub kind_near : (i j : ℕ) → j ≡ min i (length img) → kind_at img j ≡ kind_at img i
+  kind_near = near (λ (i : ℕ). kind_at img i) (λ i h. le16_out (i + 4) (omega arith))
 
-  pub name-near : (i j : ℕ) → j ≡ min i (length img) → name_at img j ≡ name_at img i
+  pub name_near : (i j : ℕ) → j ≡ min i (length img) → name_at img j ≡ name_at img i
   unfolding name_at inside after
-  name-near i j e = by_cases (name_at img j ≡ name_at img i) (length img) i
+  name_near i j e = by_cases (name_at img j ≡ name_at img i) (length img) i
       (λ h.
       let a : after img j ≡ after img i = omega arith in
       let b : inside img j ≡ inside img i = omega arith in

@@ -1,4 +1,6 @@
 // Readings of an image's records, all total: past the image's end a byte is 0, a place is the end, a name is empty.
+#![tactic(auto)]
+
 ghost use Rattle.std.specs.Prelude.{◌≡◌, ◌+◌, ◌≤◌, ◌<◌, min, length};
 ghost use Rattle.rules.specs.Bytes.{byte_at, le32, le64, kind_at, inside, after, int_at, op_at, name_at, eq_name};
 ghost use Rattle.rules.specs.Read.{places_from};

@@ -1,4 +1,6 @@
 // The stored answers of the Rust (docs/STORED.md) on standard input, held against build, build_entries, analyse and text: how many there are and how many differ.
+#![tactic(auto)]
+
 ghost use Rattle.std.specs.Prelude.{◌≤◌, ◌<◌};
 
 use entries::Entry;
@@ -14,7 +16,7 @@ const NUMBER: u64 = 0x5a5a_5a5a_5a5a_5a5a;
 const BYTE: u8 = 0xa5;
 
 // What is stored of a case: the image's length, the rooms, the answers, and the text's length.
-#[derive(Drop)]
+#[derive(Clone, Copy)]
 struct Case {
     size: u64,
     room: u64,
@@ -30,7 +32,7 @@ struct Case {
 }
 
 // What build_entries leaves.
-#[derive(Drop)]
+#[derive(Clone, Copy)]
 struct Made {
     answer: Answer,
     entries: [Entry; 256],

@@ -70,17 +70,17 @@ module _ (C : Contract) where
       ofStmts (Stmts.more s ss) Γ = ofStmt s Γ ++ behind (analysis.stmt C ret s Γ) (λ Δ. ofStmts ss Δ)
 
   -- 001: analyze_function
-  unfoldable pub ofFunction : Function → List Access
-  ofFunction f = ofStmts (analysis.ret_type f.ret) f.body (analysis.with_params f.params [])
+  unfoldable pub of_function : Function → List Access
+  of_function f = ofStmts (analysis.ret_type f.ret) f.body (analysis.with_params f.params [])
 
   -- In every function, called or not.
-  unfoldable pub ofFunctions : List Function → List Access
-  ofFunctions [] = []
-  ofFunctions (f ∷ fs) = ofFunction f ++ ofFunctions fs
+  unfoldable pub of_functions : List Function → List Access
+  of_functions [] = []
+  of_functions (f ∷ fs) = of_function f ++ of_functions fs
 
 -- Every access of a contract.
 unfoldable pub accesses : Contract → List Access
-accesses C = ofFunctions C C.functions
+accesses C = of_functions C C.functions
 
 -- The analysed type of the base of the access p to the field x; Unknown where there is no such access. (A place has one record.)
 unfoldable pub base_at : (p : ℕ) (x : Name) → List Access → Typ

@@ -1,7 +1,7 @@
 -- The word with number `want` among the words of steps. f says what is asked of a word; what steps do with their words does not depend on it.
 --     Found             it is a of that word, if that is one of those that m adds from the tally s on, and the last stands before `end`
 --     found_first       it lies in the first step
---     found-later       it lies behind the first step
+--     found_later       it lies behind the first step
 --     found_asked       a question adds no word
 --     Own, found_own    it is a of every word
 --     Long              so many words; found_front, found_back: in the steps before them, in these
@@ -62,8 +62,8 @@ module _ {A B S : Type 0} (f : Open → S) {s r : Tally} {v : A} {m : Res (Out A
         (sym (nth_first p.one.words p.two.words (want - s.n) (omega (arith, b.2, l, le))) ∙ ap (λ (ws : List Open). nth (want - s.n) ws) (sym p.words) ∙ q);
   }
 
-  pub found-later : r.n ≤ want → Found f (k v) r end want a → Found f (m >>= k) s end want a
-  found-later l h = record {
+  pub found_later : r.n ≤ want → Found f (k v) r end want a → Found f (m >>= k) s end want a
+  found_later l h = record {
     is = λ fine o e z low le w q.
         let p = split m k o e in
         let y = p.long in
@@ -114,32 +114,32 @@ pub found_own : {A S : Type 0} {f : Open → S} {m : Res (Out A)} {s : Tally} {e
 found_own {A} {S} {f} {m} {s} {end} {want} h = record { is = λ fine o e z low le w q. each_at o.words (want - s.n) w (h.each o e) q }
 
 module _ {S : Type 0} {f : Open → S} {a : S} where
-  pub own-say : {ws : List Open} → Each f a ws → Own f a (say ws)
+  pub own_say : {ws : List Open} → Each f a ws → Own f a (say ws)
   unfolding say
-  own-say {ws} h = record { each = λ o e. subst (Each f a) (ap words_of e) h }
+  own_say {ws} h = record { each = λ o e. subst (Each f a) (ap words_of e) h }
 
-  pub own-done : {A : Type 0} (v : A) → Own f a (done v)
+  pub own_done : {A : Type 0} (v : A) → Own f a (done v)
   unfolding done
-  own-done v = record { each = λ o e. subst (Each f a) (ap words_of e) each_none }
+  own_done v = record { each = λ o e. subst (Each f a) (ap words_of e) each_none }
 
-  pub own-then : {A B : Type 0} {m : Res (Out A)} {k : A → Res (Out B)} → Own f a m → ((v : A) → Own f a (k v)) → Own f a (m >>= k)
-  own-then {A} {B} {m} {k} h g = record {
+  pub own_then : {A B : Type 0} {m : Res (Out A)} {k : A → Res (Out B)} → Own f a m → ((v : A) → Own f a (k v)) → Own f a (m >>= k)
+  own_then {A} {B} {m} {k} h g = record {
     each = λ o e. let s = split m k o e in
         subst (Each f a) (sym s.words) (each_append s.one.words s.two.words (h.each s.one s.first) ((g s.one.val).each s.two s.second));
   }
 
-  pub own-asks : {A B : Type 0} (m : Res A) {k : A → Res (Out B)} → ((v : A) → Own f a (k v)) → Own f a (ask m >>= k)
+  pub own_asks : {A B : Type 0} (m : Res A) {k : A → Res (Out B)} → ((v : A) → Own f a (k v)) → Own f a (ask m >>= k)
   unfolding ask ◌>>=◌
-  own-asks (ok v) g = own-then (own-done v) g
-  own-asks (bad q) g = record { each = λ o e. absurd (subst IsOk (sym e) tt) }
+  own_asks (ok v) g = own_then (own_done v) g
+  own_asks (bad q) g = record { each = λ o e. absurd (subst IsOk (sym e) tt) }
 
-  pub own-says : {B : Type 0} {ws : List Open} {k : Unit {0} → Res (Out B)} → Each f a ws → ((u : Unit {0}) → Own f a (k u)) → Own f a (say ws >>= k)
-  own-says h g = own-then (own-say h) g
+  pub own_says : {B : Type 0} {ws : List Open} {k : Unit {0} → Res (Out B)} → Each f a ws → ((u : Unit {0}) → Own f a (k u)) → Own f a (say ws >>= k)
+  own_says h g = own_then (own_say h) g
 
-  pub own-pick : {A : Type 0} (b : Bool) {x y : Res (Out A)} → Own f a x → Own f a y → Own f a (pick b x y)
+  pub own_pick : {A : Type 0} (b : Bool) {x y : Res (Out A)} → Own f a x → Own f a y → Own f a (pick b x y)
   unfolding pick
-  own-pick true h g = h
-  own-pick false h g = g
+  own_pick true h g = h
+  own_pick false h g = g
 
 -- Steps that add j words, where they go well.
 pub record Long {A : Type 0} (j : ℕ) (m : Res (Out A)) : Type 0 where

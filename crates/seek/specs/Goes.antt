@@ -13,7 +13,7 @@ use Rattle.rules.specs.Emit.{Open}
 use Rattle.emit.specs.Steps.{Out, after, ◌>>=◌, done, say, behind}
 use Rattle.emit.specs.Sinks.{Sinks}
 use Rattle.emit.specs.Ran.{Tally, Reserved, Sums, Good, Case, Ran}
-use Rattle.emit.specs.Agrees.{is-good}
+use Rattle.emit.specs.Agrees.{is_good}
 
 pub record Goes {A : Type 0} (s r : Tally) (v : A) (m : Res (Out A)) : Type 0 where
   pub on : s.err ≡ 0 → (o : Out A) → m ≡ ok o → s.n + length o.words < 4294967295 → (r.err ≡ 0) × (v ≡ o.val) × (r.n ≡ s.n + length o.words)
@@ -54,7 +54,7 @@ split (bad q) k o e = absurd (subst IsOk (sym e) tt)
 pub ran_goes : {A : Type 0} (raw : Open → ℕ) {s r : Tally} {c c' : Sinks} {v : A} {m : Res (Out A)} → Ran raw s c r c' v m → Goes s r v m
 ran_goes {A} raw {s} {r} {c} {c'} {v} {m} q = record {
   on = λ fine o e low.
-      let g = is-good raw (subst (λ (n : Res (Out A)). Case raw s c r c' v n) e (q.run fine)) in
+      let g = is_good raw (subst (λ (n : Res (Out A)). Case raw s c r c' v n) e (q.run fine)) in
       (g.fine, g.seen, g.index (g.low low));
 }
 

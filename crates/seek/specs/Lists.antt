@@ -1,6 +1,6 @@
 -- The loops of the walk.
 --     Rest              whatever is found in the rest of a list is found in all of it; Args, Inits: args-go, args_in, args-past, args-whole, ..
---     Down              whatever is found in the part is found in the whole: down-go, down-own, down-end
+--     Down              whatever is found in the part is found in the whole: down_go, down_own, down_end
 -- Assumes nothing.
 use Rattle.std.specs.Prelude.{◌≡◌, refl, Bool, true, false, List, [], ◌∷◌, ℕ, zero, suc, ◌+◌, ◌-◌, ◌≤◌, ◌<◌}
 use Rattle.std.proofs.Common.{sym, ap, ◌∙◌, subst, arith}
@@ -15,12 +15,12 @@ use Rattle.emit.specs.Laws.{after_none, after_after}
 use Rattle.emit.specs.Ran.{Tally}
 use Rattle.emit.specs.State.{rules_of, tally}
 use Rattle.expr.specs.Scope.{scope_in}
-use Rattle.expr.proofs.Walk.{args-full, args_end, args_more, inits-full, inits-end, inits-more}
+use Rattle.expr.proofs.Walk.{args_full, args_end, args_more, inits_full, inits_end, inits_more}
 use Rattle.seek.specs.declared.Spot.{Spot}
 use Rattle.seek.specs.declared.Step.{Step}
-use Rattle.seek.specs.Found.{Found, found-later, found_none}
+use Rattle.seek.specs.Found.{Found, found_later, found_none}
 use Rattle.seek.specs.Spots.{told, owned, into, spot_in_lem, steps, args, inits, value_in, Counts, Finds, owns, goes, Listed, within, past, Steps}
-use Rattle.seek.specs.Parts.{into-first}
+use Rattle.seek.specs.Parts.{into_first}
 
 -- Steps one after the other, in either grouping.
 bind_assoc : {A B D : Type 0} (m : Res (Out A)) (f : A → Res (Out B)) (g : B → Res (Out D)) → ((m >>= f) >>= g) ≡ (m >>= λ v. f v >>= g)
@@ -68,15 +68,15 @@ module _ {img scope : List ℕ} {R : Rules} {d x want : ℕ} {rest all : Res (Ou
   same : (k : Regs → Res (Out AtReg)) → (steps img scope R (expr_at d img x) s >>= λ w. tail w.next >>= λ vs. k (with_first w vs)) ≡ (rest >>= k)
   same k = sym (ap (λ (m : Res (Out Regs)). m >>= k) e ∙ regroup _ tail k)
 
-  rest-go : v.n ≤ want → Rest img (tail v.next) all v st want
-  rest-go l = record {
+  rest_go : v.n ≤ want → Rest img (tail v.next) all v st want
+  rest_go l = record {
     all_of = λ b a end f. h.all_of b a end (λ k t. subst (λ (m : Res (Out AtReg)). Found (told img want) m (tally s) end want a) (same k)
-        (found-later (told img want) (λ w. tail w.next >>= λ vs. k (with_first w vs)) c.goes l (f (λ vs. k (with_first (value_in v) vs)) (tail_with b img want end a k (value_in v) t))));
+        (found_later (told img want) (λ w. tail w.next >>= λ vs. k (with_first w vs)) c.goes l (f (λ vs. k (with_first (value_in v) vs)) (tail_with b img want end a k (value_in v) t))));
   }
 
   rest_in : {p : ℕ} {r : Step} → want < v.n → r ≡ into x v.n s → Listed img scope R d all p st want r
   rest_in {p} {r} l f = within (ap (λ (y : Step). y.way) f)
-      (λ a g k end. h.all_of true a end (λ k t. subst (λ (m : Res (Out AtReg)). Found (told img want) m (tally s) end want a) (same k) (into-first c l f g _)) k tt)
+      (λ a g k end. h.all_of true a end (λ k t. subst (λ (m : Res (Out AtReg)). Found (told img want) m (tally s) end want a) (same k) (into_first c l f g _)) k tt)
 
 rest_end : {img scope : List ℕ} {R : Rules} {d p want : ℕ} {rest all : Res (Out Regs)} {s st z : St} {r : Step} (v : Regs) → Rest img rest all s st want → rest ≡ done v → r ≡ owned p z → Listed img scope R d all p st want r
 rest_end {img} {scope} {R} {d} {p} {want} {rest} {all} {s} v h e f = past _ f
@@ -99,7 +99,7 @@ module _ (img scope : List ℕ) (R : Rules) (d e first : ℕ) (st : St) (want p 
 
   module _ {s : St} (h : Args img scope R d e first st want p s i) where
     pub args-go : {q : ℕ} {v : St} → i < 64 → p < e → q ≡ after img p → Counts img scope R d p s v → v.n ≤ want → Args img scope R d e first st want q v (i + 1)
-    args-go l m f c b = rw f (rest-go more h (args_more R (contract_at img) (expr_at d img) img (scope_in img scope) s.next i p e l m) c b)
+    args-go l m f c b = rw f (rest_go more h (args_more R (contract_at img) (expr_at d img) img (scope_in img scope) s.next i p e l m) c b)
 
     pub args_in : {a : ℕ} {v : St} {r : Step} → i < 64 → p < e → Counts img scope R d p s v → want < v.n → r ≡ into p v.n s
         → Listed img scope R d (args img scope R (exprs_from 64 (expr_at d img) img first e) st) a st want r
@@ -109,21 +109,21 @@ module _ (img scope : List ℕ) (R : Rules) (d e first : ℕ) (st : St) (want p 
     args-past l f = rest_end _ h (args_end R (contract_at img) (expr_at d img) img (scope_in img scope) s.next (64 - i) p e l) f
 
     pub args-whole : {a : ℕ} {z : St} {r : Step} → 64 ≤ i → r ≡ owned a z → Listed img scope R d (args img scope R (exprs_from 64 (expr_at d img) img first e) st) a st want r
-    args-whole l f = rest_end _ h (args-full R (contract_at img) (expr_at d img) img (scope_in img scope) s.next i p e l) f
+    args-whole l f = rest_end _ h (args_full R (contract_at img) (expr_at d img) img (scope_in img scope) s.next i p e l) f
 
   module _ {s : St} (h : Inits img scope R d e first st want p s i) where
     pub inits-go : {q x : ℕ} {v : St} → i < 64 → p < e → x ≡ second img p → q ≡ after img p → Counts img scope R d x s v → v.n ≤ want → Inits img scope R d e first st want q v (i + 1)
-    inits-go l m y f c b = rw f (rest-go others h (inits-more R (contract_at img) (expr_at d img) img (scope_in img scope) s.next i p e l m) (rw y at c) b)
+    inits-go l m y f c b = rw f (rest_go others h (inits_more R (contract_at img) (expr_at d img) img (scope_in img scope) s.next i p e l m) (rw y at c) b)
 
     pub inits-in : {a x : ℕ} {v : St} {r : Step} → i < 64 → p < e → x ≡ second img p → Counts img scope R d x s v → want < v.n → r ≡ into x v.n s
         → Listed img scope R d (inits img scope R (inits_from 64 (expr_at d img) img first e) st) a st want r
-    inits-in {a} {x} {v} l m y c b f = rest_in others h (inits-more R (contract_at img) (expr_at d img) img (scope_in img scope) s.next i p e l m) (rw y at c) b (f ∙ ap (λ (z : ℕ). into z v.n s) y)
+    inits-in {a} {x} {v} l m y c b f = rest_in others h (inits_more R (contract_at img) (expr_at d img) img (scope_in img scope) s.next i p e l m) (rw y at c) b (f ∙ ap (λ (z : ℕ). into z v.n s) y)
 
     pub inits-past : {a : ℕ} {z : St} {r : Step} → e ≤ p → r ≡ owned a z → Listed img scope R d (inits img scope R (inits_from 64 (expr_at d img) img first e) st) a st want r
-    inits-past l f = rest_end _ h (inits-end R (contract_at img) (expr_at d img) img (scope_in img scope) s.next (64 - i) p e l) f
+    inits-past l f = rest_end _ h (inits_end R (contract_at img) (expr_at d img) img (scope_in img scope) s.next (64 - i) p e l) f
 
     pub inits-whole : {a : ℕ} {z : St} {r : Step} → 64 ≤ i → r ≡ owned a z → Listed img scope R d (inits img scope R (inits_from 64 (expr_at d img) img first e) st) a st want r
-    inits-whole l f = rest_end _ h (inits-full R (contract_at img) (expr_at d img) img (scope_in img scope) s.next i p e l) f
+    inits-whole l f = rest_end _ h (inits_full R (contract_at img) (expr_at d img) img (scope_in img scope) s.next i p e l) f
 
 -- Whatever is found in the part that t leads to is found in the whole.
 pub record Down (img scope : List ℕ) (R : Rules) (depth p : ℕ) (st : St) (end want d : ℕ) (t : Step) : Type 0 where
@@ -133,12 +133,12 @@ pub down_begin : {img scope : List ℕ} {R : Rules} {depth p : ℕ} {st : St} {e
 down_begin {img} {scope} {R} {depth} {p} {st} {end} {want} e = record { whole = λ a h. subst (λ (y : Step). Finds img scope R (expr_at depth img y.place) y.st y.to want a) e h }
 
 module _ {img scope : List ℕ} {R : Rules} {depth p : ℕ} {st : St} {end want d : ℕ} {t : Step} (h : Down img scope R depth p st end want d t) where
-  pub down-go : {e : ℕ} {u : Step} → (d ≡ 0 → ⊥) → e ≡ d - 1 → Steps img scope R e t.place t.st t.to want u → u.way ≡ 3 → Down img scope R depth p st end want e u
-  down-go {e} {u} z f l x = record { whole = λ a g. let q : suc e ≡ d = omega (arith, z, f) in h.whole a (record { found = rw q at (l.leads a (goes x g)) }) }
+  pub down_go : {e : ℕ} {u : Step} → (d ≡ 0 → ⊥) → e ≡ d - 1 → Steps img scope R e t.place t.st t.to want u → u.way ≡ 3 → Down img scope R depth p st end want e u
+  down_go {e} {u} z f l x = record { whole = λ a g. let q : suc e ≡ d = omega (arith, z, f) in h.whole a (record { found = rw q at (l.leads a (goes x g)) }) }
 
-  pub down-own : {e : ℕ} {u : Step} → (d ≡ 0 → ⊥) → e ≡ d - 1 → Steps img scope R e t.place t.st t.to want u → (u.way ≡ 3 → ⊥) → Finds img scope R (expr_at depth img p) st end want (spot_in_lem u)
-  down-own {e} {u} z f l x = let q : suc e ≡ d = omega (arith, z, f) in h.whole (spot_in_lem u) (record { found = rw q at (l.leads (spot_in_lem u) (owns x refl)) })
+  pub down_own : {e : ℕ} {u : Step} → (d ≡ 0 → ⊥) → e ≡ d - 1 → Steps img scope R e t.place t.st t.to want u → (u.way ≡ 3 → ⊥) → Finds img scope R (expr_at depth img p) st end want (spot_in_lem u)
+  down_own {e} {u} z f l x = let q : suc e ≡ d = omega (arith, z, f) in h.whole (spot_in_lem u) (record { found = rw q at (l.leads (spot_in_lem u) (owns x refl)) })
 
-  pub down-end : {a : Spot} → d ≡ 0 → Finds img scope R (expr_at depth img p) st end want a
+  pub down_end : {a : Spot} → d ≡ 0 → Finds img scope R (expr_at depth img p) st end want a
   unfolding expr_at gen
-  down-end {a} z = h.whole a (record { found = rw z (found_none _) })
+  down_end {a} z = h.whole a (record { found = rw z (found_none _) })

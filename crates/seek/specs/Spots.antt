@@ -16,7 +16,7 @@ use Rattle.rules.specs.Emit.{Open, word, calls, AtReg}
 use Rattle.rules.specs.Why.{landing}
 use Rattle.emit.specs.declared.St.{St}
 use Rattle.emit.specs.declared.Rules.{Rules}
-use Rattle.emit.specs.Steps.{Out, ◌>>=◌, at, Regs, gen, gens, gen-inits, gen-call}
+use Rattle.emit.specs.Steps.{Out, ◌>>=◌, at, Regs, gen, gens, gen-inits, gen_call}
 use Rattle.emit.specs.Ran.{or_first, Tally, Sums}
 use Rattle.emit.specs.State.{rules_of, tally}
 use Rattle.expr.specs.Scope.{scope_in}
@@ -117,4 +117,4 @@ pub record Steps (img scope : List ℕ) (R : Rules) (d i : ℕ) (st : St) (end w
 -- in_user, and the calls that are builtins
 pub record Calls (img scope : List ℕ) (R : Rules) (d i : ℕ) (st : St) (end want : ℕ) (b : Option Builtin) (r : Step) : Type 0 where
   pub leads : (a : Spot) → Ans img scope R d want r a
-      → Found (told img want) (gen-call (rules_of R) (contract_at img) i (name_in img i) st.next (args img scope R (args_at_lem d img i) st) b) (tally st) end want a
+      → Found (told img want) (gen_call (rules_of R) (contract_at img) i (name_in img i) st.next (args img scope R (args_at_lem d img i) st) b) (tally st) end want a

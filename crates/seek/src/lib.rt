@@ -2,6 +2,8 @@
 //
 // A part's words are counted by generating it once more (crate expr), into slices that nobody looks at. No function calls itself: a step
 // leads to one part, and find_expr goes on from there, the depth falling. `want` is the word's number, `end` that of the word behind the record's last.
+#![tactic(auto)]
+
 ghost use Rattle.std.specs.Prelude.{◌≡◌, ◌+◌, eqb};
 ghost use Rattle.std.proofs.Math.Option.{none};
 ghost use Rattle.rules.specs.Read.{expr_at, exprs_from, inits_from, kMapping, kAccess, kLiteral, kBinary, kCall};
@@ -25,7 +27,7 @@ pub const VALUE: u64 = 3;
 pub const BLOCK: u64 = 4;
 
 // The record that a word is of; of a jump ahead the word that it leads to, of a call the function's index.
-#[derive(Drop)]
+#[derive(Clone, Copy)]
 pub struct Spot {
     pub place: usize,
     pub way: u64,
@@ -33,7 +35,7 @@ pub struct Spot {
 }
 
 // A spot, or the part that the word lies in: it starts with the state st and ends before word number `to`.
-#[derive(Drop)]
+#[derive(Clone, Copy)]
 pub struct Step {
     pub place: usize,
     pub way: u64,

@@ -37,10 +37,10 @@ bound_more {img} {e} {e1} {e2} {top} {x} {k} {r} {t} p {ps} q hx ht w b = rw w (
 })
 
 module _ (C : Contract) (f : Function) where
-  pub function-ok : {Δ : Env} → ok Δ ≡ stmts C (ret_type f.ret) f.body (with_params f.params []) → ok tt ≡ function C f
+  pub function_ok : {Δ : Env} → ok Δ ≡ stmts C (ret_type f.ret) f.body (with_params f.params []) → ok tt ≡ function C f
   unfolding function
-  function-ok h = then_ok _ h refl
+  function_ok h = then_ok _ h refl
 
-  pub function-bad : {r : Refusal} → bad r ≡ stmts C (ret_type f.ret) f.body (with_params f.params []) → bad r ≡ function C f
+  pub function_bad : {r : Refusal} → bad r ≡ stmts C (ret_type f.ret) f.body (with_params f.params []) → bad r ≡ function C f
   unfolding function
-  function-bad h = then_bad _ h
+  function_bad h = then_bad _ h

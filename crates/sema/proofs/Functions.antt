@@ -12,7 +12,7 @@ use Rattle.rules.specs.Tree.{Function}
 use Rattle.rules.specs.Refusal.{Refusal, Res, ok, bad}
 use Rattle.rules.specs.Analyse.{function, functions, analyse}
 use Rattle.rules.specs.Read.{function_at, contract_at}
-use Rattle.rules.specs.Meant.{Access, ofFunction, ofFunctions, accesses}
+use Rattle.rules.specs.Meant.{Access, of_function, of_functions, accesses}
 use Rattle.rules.specs.Build.{passed}
 use Rattle.rules.specs.Joined.{whole}
 use Rattle.bounds.specs.Held.{each_of_map, each_get}
@@ -77,18 +77,18 @@ module _ (img : List ℕ) where
 
 -- 02: P2: the accesses of the functions from index i on
 abbrev pub accesses_from : List ℕ → ℕ → List Access
-accesses_from img i = ofFunctions (contract_at img) (map (function_at img) (drop i (functions_in img)))
+accesses_from img i = of_functions (contract_at img) (map (function_at img) (drop i (functions_in img)))
 
 module _ (img N : List ℕ) where
-  pub notes-start : written (contract_at img) N (accesses (contract_at img)) ≡ written (contract_at img) N (accesses_from img 0)
+  pub notes_start : written (contract_at img) N (accesses (contract_at img)) ≡ written (contract_at img) N (accesses_from img 0)
   unfolding accesses contract_at
-  notes-start = refl
+  notes_start = refl
 
-  pub notes-done : (i : ℕ) → length (functions_in img) ≤ i → written (contract_at img) N (accesses_from img i) ≡ N
-  unfolding ofFunctions written
-  notes-done i h = rw (drop_all (functions_in img) i h)
+  pub notes_done : (i : ℕ) → length (functions_in img) ≤ i → written (contract_at img) N (accesses_from img i) ≡ N
+  unfolding of_functions written
+  notes_done i h = rw (drop_all (functions_in img) i h)
 
-  pub notes-next : {N₁ : List ℕ} (i : ℕ) → i < length (functions_in img) → N₁ ≡ written (contract_at img) N (ofFunction (contract_at img) (function_at img (get_or (functions_in img) i 0)))
+  pub notes_next : {N₁ : List ℕ} (i : ℕ) → i < length (functions_in img) → N₁ ≡ written (contract_at img) N (of_function (contract_at img) (function_at img (get_or (functions_in img) i 0)))
       → written (contract_at img) N (accesses_from img i) ≡ written (contract_at img) N₁ (accesses_from img (i + 1))
-  unfolding ofFunctions
-  notes-next i l h = rw (drop_get (functions_in img) i l, add-one, h) (written_append (contract_at img) N _ _)
+  unfolding of_functions
+  notes_next i l h = rw (drop_get (functions_in img) i l, add-one, h) (written_append (contract_at img) N _ _)

@@ -42,8 +42,8 @@ behind_ok K h s = rw (← h) s
 
 -- behind an expression, with the notes of its accesses l: more is noted; nothing more is
 module _ {A : Type 0} {img e N N₁ : List ℕ} {top m : ℕ} {E : Res A} {a : A} (l : List Access) (K : A → Res Env) (h : ok a ≡ E) (w : N₁ ≡ written (contract_at img) N l) where
-  pub first-ok : {e' N' : List ℕ} {r : After} {k : List Access} → Stepped img e e' N₁ N' top m r (K a) k → Stepped img e e' N N' top m r (E >>= K) (l ++ k)
-  first-ok s =
+  pub first_ok : {e' N' : List ℕ} {r : After} {k : List Access} → Stepped img e e' N₁ N' top m r (K a) k → Stepped img e e' N N' top m r (E >>= K) (l ++ k)
+  first_ok s =
       let c = behind_ok K h s in
       record { answer = c.answer; within = c.within; kept = c.kept; size = c.size; notes = record { all = λ Δ g. in_turn _ _ _ _ w (s.notes.all Δ g) } }
 
@@ -91,9 +91,9 @@ module _ {img e e1 N N₁ : List ℕ} {top m : ℕ} {r : After} {o : Res Env} {l
         notes = record { all = λ Δ h. in_turn _ _ _ _ (told q) (s.notes.all Δ h ∙ ap (written (contract_at img) N₁) (sym (behind_answer L (answered q)))) };
       }
 
-  pub step-bad : {n : ℕ} {f : Fault} {k : List Access} (K : Env → Res Env) → r ≡ after.Refused f → Stepped img e e1 N N₁ top n r (o >>= K) k
+  pub step_bad : {n : ℕ} {f : Fault} {k : List Access} (K : Env → Res Env) → r ≡ after.Refused f → Stepped img e e1 N N₁ top n r (o >>= K) k
   unfolding after_of Within
-  step-bad K q = rw q (record { answer = then_bad K (stopped q); within = tt; kept = p.kept; size = p.size; notes = refused _ _ _ refl })
+  step_bad K q = rw q (record { answer = then_bad K (stopped q); within = tt; kept = p.kept; size = p.size; notes = refused _ _ _ refl })
 
 -- behind a name that was added
 module _ {img e e1 : List ℕ} {top x k0 : ℕ} {t : Ty} (p : Pushed img e e1 top x t k0) where

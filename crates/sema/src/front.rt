@@ -13,7 +13,7 @@ use lookup::{Checked, Fault};
 use rules::{Answer, Seen};
 
 // Rows 1 to 7: number and place. Rows 10 to 22. Row 30: its place. None.
-#[derive(Drop)]
+#[derive(Clone, Copy)]
 pub enum Judged {
     Image(usize, usize),
     Analysis(Fault),

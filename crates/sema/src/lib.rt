@@ -1,6 +1,8 @@
 // 001: sema.rs, its statements and all above them (expressions: crate typing), over the image. A name is the place of its record; the names in
 // scope stand in a lent array; what is found of each access is left in lent notes (02: P2).
 // front.rt: what stands before generation, in its order.
+#![tactic(auto)]
+
 pub mod front;
 
 ghost use Rattle.std.specs.Prelude.{◌≡◌, List, [], ℕ, suc, ◌≤◌, ◌+◌, ◌*◌, length};
@@ -9,7 +11,7 @@ ghost use Rattle.rules.specs.Read.{expr_at, stmt_at_lem, stmt_kind_of, sLet, sAs
 ghost use Rattle.rules.specs.Types.{Typ, clash, with_name};
 ghost use Rattle.rules.specs.Refusal.{Refusal, unless, answer, refused};
 ghost use Rattle.rules.specs.Analyse.{function};
-ghost use Rattle.rules.specs.Meant.{ofExpr, ofStmts, ofFunction, accesses};
+ghost use Rattle.rules.specs.Meant.{ofExpr, ofStmts, of_function, accesses};
 ghost use Rattle.rules.specs.Build.{analyse_of};
 ghost use Rattle.tables.specs.Listed.{Tabled};
 ghost use Rattle.notes.specs.Notes.{Wrote};
@@ -23,7 +25,7 @@ use rules::Answer;
 use typing::Args;
 
 // How many cells of the array are in use after a statement.
-#[derive(Drop)]
+#[derive(Clone, Copy)]
 pub enum After {
     Top(usize),
     Refused(Fault),
@@ -468,7 +470,7 @@ fn analyze_function(
     p: usize,
 ) -> Checked
     requires { (Tabled img.now tables.now) × (2 * names (function_at img.now p) ≤ length env.old) }
-    ensures { (checked_of img.now result ≡ function (contract_at img.now) (function_at img.now p)) × ((length env.new ≡ length env.old) × Wrote (contract_at img.now) notes.old notes.new (ofFunction (contract_at img.now) (function_at img.now p)) (checked_of img.now result)) }
+    ensures { (checked_of img.now result ≡ function (contract_at img.now) (function_at img.now p)) × ((length env.new ≡ length env.old) × Wrote (contract_at img.now) notes.old notes.new (of_function (contract_at img.now) (function_at img.now p)) (checked_of img.now result)) }
 {
     let params = records::past(img, records::body(img, p));
     let gives = records::past(img, params);

@@ -51,43 +51,43 @@ module _ (s : List ℕ) (key v : ℕ) (names : get_or s 0 0 < 512) (size : 1025 
   abbrev more : List ℕ
   more = set filled 0 (k + 1)
 
-  filled-length : length filled ≡ length s
-  filled-length = simp length-set
+  filled_length : length filled ≡ length s
+  filled_length = simp length-set
 
-  more-count : get_or more 0 0 ≡ k + 1
-  more-count = get_or-set_same filled 0 (k + 1) 0 (omega (arith, filled-length))
+  more_count : get_or more 0 0 ≡ k + 1
+  more_count = get_or-set_same filled 0 (k + 1) 0 (omega (arith, filled_length))
 
   -- a cell behind the count
   cell : (i : ℕ) → 0 < i → get_or more i 0 ≡ get_or filled i 0
   cell i z = get_or-set_other filled 0 i (k + 1) 0 (omega arith)
 
-  more-kept : (i : ℕ) → 0 < i → i ≤ 2 * k → get_or more i 0 ≡ get_or s i 0
-  more-kept i z h =
+  more_kept : (i : ℕ) → 0 < i → i ≤ 2 * k → get_or more i 0 ≡ get_or s i 0
+  more_kept i z h =
       cell i z ∙ get_or-set_other keyed (2 * k + 2) i v 0 (omega arith) ∙ get_or-set_other s (2 * k + 1) i key 0 (omega arith)
 
-  more-key : get_or more (2 * k + 1) 0 ≡ key
-  more-key =
+  more_key : get_or more (2 * k + 1) 0 ≡ key
+  more_key =
       cell (2 * k + 1) (omega arith) ∙ get_or-set_other keyed (2 * k + 2) (2 * k + 1) v 0 (omega arith) ∙ get_or-set_same s (2 * k + 1) key 0 (omega arith)
 
-  more-cell : get_or more (2 * k + 2) 0 ≡ v
-  more-cell = cell (2 * k + 2) (omega arith) ∙ get_or-set_same keyed (2 * k + 2) v 0 (simp length-set (omega arith))
+  more_cell : get_or more (2 * k + 2) 0 ≡ v
+  more_cell = cell (2 * k + 2) (omega arith) ∙ get_or-set_same keyed (2 * k + 2) v 0 (simp length-set (omega arith))
 
   module _ (img : List ℕ) (p r : ℕ) (b : Beside img p (r % 256) v) where
     more-reg : reg_no more k ≡ r % 256
-    more-reg = let low : number_in v % 256 ≡ r % 256 = omega (arith, b.number) in rw more-cell low
+    more-reg = let low : number_in v % 256 ≡ r % 256 = omega (arith, b.number) in rw more_cell low
 
     one_more : key ≡ key_of (name_at img p) → scope_of img more (suc k) ≡ with_name (name_at img p) (r % 256) (scope_of img s k)
     unfolding scope_of pick
-    one_more e = rw (more-reg, more-key, more-cell, b.name, eq-eqb key (key_of (name_at img p)) e, from_same img s more k more-kept) refl
+    one_more e = rw (more-reg, more_key, more_cell, b.name, eq-eqb key (key_of (name_at img p)) e, from_same img s more k more_kept) refl
 
     pub bound : key ≡ key_of (name_at img p) → Binds img p r s more
     bound e = record {
       scope =
-          let n : min (get_or more 0 0) 512 ≡ suc k = omega (arith, more-count) in
+          let n : min (get_or more 0 0) 512 ≡ suc k = omega (arith, more_count) in
           let m : min k 512 ≡ k = omega arith in
           rw (n, m) (one_more e);
-      frame = record { least = omega (arith, more-count); most = omega (arith, more-count); kept = more-kept };
-      count = more-count;
+      frame = record { least = omega (arith, more_count); most = omega (arith, more_count); kept = more_kept };
+      count = more_count;
       reg = more-reg;
     }
 
@@ -96,14 +96,14 @@ module _ (img : List ℕ) {s t : List ℕ} {k : ℕ} (f : Frame s t k) (z : 0 < 
   back_count : get_or (set t 0 (get_or s 0 0)) 0 0 ≡ get_or s 0 0
   back_count = get_or-set_same t 0 (get_or s 0 0) 0 z
 
-  back-kept : (i : ℕ) → 0 < i → i ≤ 2 * get_or s 0 0 → get_or (set t 0 (get_or s 0 0)) i 0 ≡ get_or s i 0
-  back-kept i y b = get_or-set_other t 0 i (get_or s 0 0) 0 (omega arith) ∙ f.kept i y b
+  back_kept : (i : ℕ) → 0 < i → i ≤ 2 * get_or s 0 0 → get_or (set t 0 (get_or s 0 0)) i 0 ≡ get_or s i 0
+  back_kept i y b = get_or-set_other t 0 i (get_or s 0 0) 0 (omega arith) ∙ f.kept i y b
 
   pub put_back : scope_in img (set t 0 (get_or s 0 0)) ≡ scope_in img s
-  put_back = scope_same img s (set t 0 (get_or s 0 0)) back_count back-kept
+  put_back = scope_same img s (set t 0 (get_or s 0 0)) back_count back_kept
 
-  pub back-frame : (j : ℕ) → Frame s (set t 0 (get_or s 0 0)) j
-  back-frame j = record { least = omega (arith, back_count); most = omega (arith, back_count); kept = back-kept }
+  pub back_frame : (j : ℕ) → Frame s (set t 0 (get_or s 0 0)) j
+  back_frame j = record { least = omega (arith, back_count); most = omega (arith, back_count); kept = back_kept }
 
 pub fewer : {img t N s : List ℕ} {j k : ℕ} → Ready img t N s k → j ≤ k → Ready img t N s j
 fewer a h = record { known = a.known; names = omega (arith, a.names, h); size = a.size }

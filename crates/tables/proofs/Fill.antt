@@ -69,18 +69,18 @@ module _ (img t : List ℕ) (a h p v m : ℕ) (earlier : h < a) (room : a < leng
 
 -- the newest of a bucket, of no record, after one of the bucket and after one of another
 module _ (bucket : ℕ → ℕ) where
-  newest-none : (b : ℕ) → Newest bucket 0 b 0
-  newest-none b = record { within = omega arith; same = λ h. absurd (omega arith); others = λ j a h e. omega arith }
+  newest_none : (b : ℕ) → Newest bucket 0 b 0
+  newest_none b = record { within = omega arith; same = λ h. absurd (omega arith); others = λ j a h e. omega arith }
 
-  newest-here : (n b : ℕ) → bucket n ≡ b → Newest bucket (n + 1) b (n + 1)
-  newest-here n b e = record {
+  newest_here : (n b : ℕ) → bucket n ≡ b → Newest bucket (n + 1) b (n + 1)
+  newest_here n b e = record {
     within = omega arith;
     same = λ h. let z : n + 1 - 1 ≡ n = omega arith in rw z e;
     others = λ j a h q. omega arith;
   }
 
-  newest-there : (n b h : ℕ) → (bucket n ≡ b → ⊥) → Newest bucket n b h → Newest bucket (n + 1) b h
-  newest-there n b h d w = record {
+  newest_there : (n b h : ℕ) → (bucket n ≡ b → ⊥) → Newest bucket n b h → Newest bucket (n + 1) b h
+  newest_there n b h d w = record {
     within = omega (arith, w.within);
     same = w.same;
     others = λ j a l. one_more (λ i. h ≤ i → bucket i ≡ b → ⊥) n (λ i m g. w.others i g m) (λ g. d) j l a;
@@ -103,7 +103,7 @@ module _ (img t₀ : List ℕ) (base : ℕ) (ps : List ℕ) where
     left = λ i. let z : 0 + i ≡ i = omega arith in rw z refl;
     places = λ i h. absurd (omega arith);
     links = λ i h. absurd (omega arith);
-    heads = λ b h. rw (empty b h) (newest-none (bucket_in img ps) b);
+    heads = λ b h. rw (empty b h) (newest_none (bucket_in img ps) b);
   }
 
   module _ (t : List ℕ) where
@@ -130,10 +130,10 @@ module _ (img t₀ : List ℕ) (base : ℕ) (ps : List ℕ) where
             (d : ℕ) → d < 61 → (q : Bool) → eqb b d ≡ q → Newest (bucket_in img ps) (n + 1) d (get_or t' (base + 1 + d) 0)
         head_of b s mine f d h true q =
             subst (λ (e : ℕ). Newest (bucket_in img ps) (n + 1) e (get_or t' (base + 1 + e) 0)) (eqb-true b d q)
-            (rw s.head (newest-here (bucket_in img ps) n b mine))
+            (rw s.head (newest_here (bucket_in img ps) n b mine))
         head_of b s mine f d h false q =
             rw (s.other (base + 1 + d) (omega arith) (omega (arith, eqb-false b d q)))
-            (newest-there (bucket_in img ps) n d (get_or t (base + 1 + d) 0) (λ e. eqb-false b d q (sym mine ∙ e)) (f.heads d h))
+            (newest_there (bucket_in img ps) n d (get_or t (base + 1 + d) 0) (λ e. eqb-false b d q (sym mine ∙ e)) (f.heads d h))
 
     pub done : (rest : List ℕ) (n : ℕ) (first : List ℕ) → rest ≡ [] → base + 62 + n ≤ length t → Above first t₀ base → Filled img t₀ t base ps rest n →
         Listed img (set t base n) base ps × Above first (set t base n) base

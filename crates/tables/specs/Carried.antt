@@ -1,6 +1,6 @@
 -- What a look-up says of the tree (contract_at).
---     function-is, struct_is     the last function, the last struct of a name
---     function-index-is, storage-index-is     the index of the last function, of the last storage field of a name
+--     function_is, struct_is     the last function, the last struct of a name
+--     function_index_is, storage_index_is     the index of the last function, of the last storage field of a name
 --     function_count_is, struct_count_is     how many there are
 --     few     a List is read k records far
 -- Assumes nothing.
@@ -19,42 +19,42 @@ use Rattle.tables.specs.declared.Found.{Found}
 use Rattle.tables.specs.Listed.{Named, place_of, index_of, functions_in, structs_in, storage_in}
 
 module _ {A : Type 0} (f : ℕ → A) (n : A → Name) (m : ℕ → Name) (same : (p : ℕ) → n (f p) ≡ m p) (x : Name) where
-  mapped-pick : (b : Bool) (p : ℕ) → mapped f (pick b (some p) none) ≡ pick b (some (f p)) none
+  mapped_pick : (b : Bool) (p : ℕ) → mapped f (pick b (some p) none) ≡ pick b (some (f p)) none
   unfolding mapped pick
-  mapped-pick true p = refl
-  mapped-pick false p = refl
+  mapped_pick true p = refl
+  mapped_pick false p = refl
 
-  mapped-else : (a b : Option ℕ) → mapped f (or_else a b) ≡ or_else (mapped f a) (mapped f b)
+  mapped_else : (a b : Option ℕ) → mapped f (or_else a b) ≡ or_else (mapped f a) (mapped f b)
   unfolding mapped or_else
-  mapped-else (some a) b = refl
-  mapped-else none b = refl
+  mapped_else (some a) b = refl
+  mapped_else none b = refl
 
-  last-map : (l : List ℕ) → mapped f (last m x l) ≡ last n x (map f l)
+  last_map : (l : List ℕ) → mapped f (last m x l) ≡ last n x (map f l)
   unfolding last mapped
-  last-map [] = refl
-  last-map (p ∷ l) = mapped-else (last m x l) (pick (eq_name (m p) x) (some p) none) ∙ rw (mapped-pick (eq_name (m p) x) p, last-map l, same p)
+  last_map [] = refl
+  last_map (p ∷ l) = mapped_else (last m x l) (pick (eq_name (m p) x) (some p) none) ∙ rw (mapped_pick (eq_name (m p) x) p, last_map l, same p)
 
-  index-map : (i : ℕ) (l : List ℕ) → last_index m i x l ≡ last_index n i x (map f l)
+  index_map : (i : ℕ) (l : List ℕ) → last_index m i x l ≡ last_index n i x (map f l)
   unfolding last_index
-  index-map i [] = refl
-  index-map i (p ∷ l) = rw (index-map (suc i) l, same p)
+  index_map i [] = refl
+  index_map i (p ∷ l) = rw (index_map (suc i) l, same p)
 
 module _ (img : List ℕ) (x : ℕ) (r : Found) where
-  pub function-is : Named img x (functions_in img) r → mapped (function_at img) (place_of r) ≡ last function_name (name_at img x) (contract_at img).functions
+  pub function_is : Named img x (functions_in img) r → mapped (function_at img) (place_of r) ≡ last function_name (name_at img x) (contract_at img).functions
   unfolding contract_at function_at
-  function-is h = rw h.place (last-map (function_at img) function_name (name_in img) (λ p. refl) (name_at img x) (functions_in img))
+  function_is h = rw h.place (last_map (function_at img) function_name (name_in img) (λ p. refl) (name_at img x) (functions_in img))
 
-  pub function-index-is : Named img x (functions_in img) r → index_of r ≡ last_index function_name 0 (name_at img x) (contract_at img).functions
+  pub function_index_is : Named img x (functions_in img) r → index_of r ≡ last_index function_name 0 (name_at img x) (contract_at img).functions
   unfolding contract_at function_at
-  function-index-is h = rw h.index (index-map (function_at img) function_name (name_in img) (λ p. refl) (name_at img x) 0 (functions_in img))
+  function_index_is h = rw h.index (index_map (function_at img) function_name (name_in img) (λ p. refl) (name_at img x) 0 (functions_in img))
 
   pub struct_is : Named img x (structs_in img) r → mapped (struct_at img) (place_of r) ≡ last struct_name (name_at img x) (contract_at img).structs
   unfolding contract_at struct_at
-  struct_is h = rw h.place (last-map (struct_at img) struct_name (name_in img) (λ p. refl) (name_at img x) (structs_in img))
+  struct_is h = rw h.place (last_map (struct_at img) struct_name (name_in img) (λ p. refl) (name_at img x) (structs_in img))
 
-  pub storage-index-is : Named img x (storage_in img) r → index_of r ≡ last_index field_name 0 (name_at img x) (contract_at img).storage
+  pub storage_index_is : Named img x (storage_in img) r → index_of r ≡ last_index field_name 0 (name_at img x) (contract_at img).storage
   unfolding contract_at fields_at field_at
-  storage-index-is h = rw h.index (index-map (field_at img) field_name (name_in img) (λ p. refl) (name_at img x) 0 (storage_in img))
+  storage_index_is h = rw h.index (index_map (field_at img) field_name (name_in img) (λ p. refl) (name_at img x) 0 (storage_in img))
 
 -- as many as the tree has
 pub function_count_is : (img : List ℕ) → length (functions_in img) ≡ length (contract_at img).functions

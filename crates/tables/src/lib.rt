@@ -1,6 +1,8 @@
 // Where the functions, structs and storage fields of an image stand: listed once, then searched from the newest.
 // A list starts at its base with the count and the heads of 61 buckets of keys of names; then a cell for each record: its place with the link beside it.
 // A head is the last record of its bucket, a link the one before of the same bucket: its index + 1, 0 where there is none.
+#![tactic(auto)]
+
 ghost use Rattle.std.specs.Prelude.{◌≡◌, List, ℕ, ◌+◌, ◌*◌, ◌≤◌, ◌<◌, length, get_or};
 ghost use Rattle.rules.specs.Read.{places_in};
 ghost use Rattle.tables.specs.Listed.{Listed, Above, Cleared, Tabled, Named, functions_in, structs_in, storage_in};
@@ -14,7 +16,7 @@ const STORAGE: usize = 444;
 pub const SIZE: usize = 762;
 
 // The last record of a name: its index in its List and its place.
-#[derive(Drop)]
+#[derive(Clone, Copy)]
 pub enum Found {
     At(usize, usize),
     Nothing,

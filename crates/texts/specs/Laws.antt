@@ -1,9 +1,9 @@
 -- How the stages' answers become a text.
---     tells-image, tells-ambiguous, tells-fine, tells-fault      what stands before generation
---     generated-fine, generated-told      generation; what it refuses is told by its number and its place
---     judged-room, generate-room      256 bytes are enough
---     told-generated, told-image, told-fault, told-ambiguous      what a stage tells, the program tells
---     short-answer, whole-answer      the whole answer
+--     tells_image, tells_ambiguous, tells_fine, tells_fault      what stands before generation
+--     generated_fine, generated_told      generation; what it refuses is told by its number and its place
+--     judged_room, generate_room      256 bytes are enough
+--     told_generated, told_image, told_fault, told_ambiguous      what a stage tells, the program tells
+--     short_answer, whole_answer      the whole answer
 -- Assumes nothing.
 use Rattle.std.proofs.Math.Path.{◌≡◌, refl, ap, subst}
 use Rattle.std.proofs.Common.{sym, ◌∙◌, arith, lt-ltb, le-ltb}
@@ -41,27 +41,27 @@ tells_bad r {a} {b} {s} {t} {k} e h l = record {
 
 -- What stands before generation: rows 1 to 7, 30 and none have no text.
 module _ (img : List ℕ) {j : Judged} {s : List ℕ} where
-  pub tells-image : {n p : ℕ} {a : Answer} → j ≡ is.Image n p → a ≡ analysis_answer (judged_of img j) → Tells (judged_of img j) s s a
+  pub tells_image : {n p : ℕ} {a : Answer} → j ≡ is.Image n p → a ≡ analysis_answer (judged_of img j) → Tells (judged_of img j) s s a
   unfolding judged_of analysis_answer told_answer told_text text_of number_of place_of refused
-  tells-image {n} {p} h e = rw h (record { answers = rw h at e; lies = refl })
+  tells_image {n} {p} h e = rw h (record { answers = rw h at e; lies = refl })
 
-  pub tells-ambiguous : {p : ℕ} {a : Answer} → j ≡ is.Ambiguous p → a ≡ analysis_answer (judged_of img j) → Tells (judged_of img j) s s a
+  pub tells_ambiguous : {p : ℕ} {a : Answer} → j ≡ is.Ambiguous p → a ≡ analysis_answer (judged_of img j) → Tells (judged_of img j) s s a
   unfolding judged_of analysis_answer told_answer told_text text_of number_of place_of refused
-  tells-ambiguous {p} h e = rw h (record { answers = rw h at e; lies = refl })
+  tells_ambiguous {p} h e = rw h (record { answers = rw h at e; lies = refl })
 
-  pub tells-fine : {a : Answer} → j ≡ is.Fine → a ≡ analysis_answer (judged_of img j) → Tells (judged_of img j) s s a
+  pub tells_fine : {a : Answer} → j ≡ is.Fine → a ≡ analysis_answer (judged_of img j) → Tells (judged_of img j) s s a
   unfolding judged_of analysis_answer told_answer told_text
-  tells-fine h e = rw h (record { answers = rw h at e; lies = refl })
+  tells_fine h e = rw h (record { answers = rw h at e; lies = refl })
 
   -- Analysis has one.
-  pub tells-fault : {f : code.Fault} {t : List ℕ} {a b : Answer} {k : ℕ} → j ≡ is.Analysis f → a ≡ analysis_answer (judged_of img j) → b ≡ answer a.refusal a.place k → Lays 0 (text_of (fault_of img f)) s t k
+  pub tells_fault : {f : code.Fault} {t : List ℕ} {a b : Answer} {k : ℕ} → j ≡ is.Analysis f → a ≡ analysis_answer (judged_of img j) → b ≡ answer a.refusal a.place k → Lays 0 (text_of (fault_of img f)) s t k
       → Tells (judged_of img j) s t b
   unfolding judged_of analysis_answer
-  tells-fault {f} h e g l = rw h (tells_bad (fault_of img f) (rw h at e) g l)
+  tells_fault {f} h e g l = rw h (tells_bad (fault_of img f) (rw h at e) g l)
 
-  pub fault-room : {f : code.Fault} → j ≡ is.Analysis f → Room (judged_of img j) s → length (text_of (fault_of img f)) ≤ length s
+  pub fault_room : {f : code.Fault} → j ≡ is.Analysis f → Room (judged_of img j) s → length (text_of (fault_of img f)) ≤ length s
   unfolding judged_of told_text
-  fault-room {f} h r = (rw h at r).enough
+  fault_room {f} h r = (rw h at r).enough
 
 -- Generation: no refusal, or the one that its number and its place tell.
 pub record Told (img : List ℕ) (a : Answer) (m : Res Program) : Type 0 where
@@ -69,24 +69,24 @@ pub record Told (img : List ℕ) (a : Answer) (m : Res Program) : Type 0 where
   pub refuses : a ≡ refused (generated_as img a.refusal a.place)
 
 module _ {img : List ℕ} {c c' : Sinks} {F t : List ℕ} {a : Answer} where
-  pub generated-fine : {m : Res Program} {s : List ℕ} {b : Answer} → Makes img c a c' F t m → a.refusal ≡ 0 → b ≡ answer a.refusal a.place 0 → Tells m s s b
+  pub generated_fine : {m : Res Program} {s : List ℕ} {b : Answer} → Makes img c a c' F t m → a.refusal ≡ 0 → b ≡ answer a.refusal a.place 0 → Tells m s s b
   unfolding told_answer told_text
-  generated-fine (made P h _) z e = record { answers = e ∙ ap (λ (x : Answer). answer x.refusal x.place 0) h.is; lies = refl }
-  generated-fine (not_made q h _) z e = absurd (h.numbered z)
+  generated_fine (made P h _) z e = record { answers = e ∙ ap (λ (x : Answer). answer x.refusal x.place 0) h.is; lies = refl }
+  generated_fine (not_made q h _) z e = absurd (h.numbered z)
 
-  told-own : {m : Res Program} → Makes img c a c' F t m → (a.refusal ≡ 0 → ⊥) → Said (Own img) (Any Program) m → Told img a m
+  told_own : {m : Res Program} → Makes img c a c' F t m → (a.refusal ≡ 0 → ⊥) → Said (Own img) (Any Program) m → Told img a m
   unfolding number_of place_of
-  told-own (made P h _) z o = absurd (z (ap (λ (x : Answer). x.refusal) h.is))
-  told-own (not_made q h _) z o =
+  told_own (made P h _) z o = absurd (z (ap (λ (x : Answer). x.refusal) h.is))
+  told_own (not_made q h _) z o =
       let e : q ≡ generated_as img a.refusal a.place = said_of o refl ∙ ap (λ (x : Answer). generated_as img x.refusal x.place) (sym h.is) in
       record { is = ap bad e; refuses = h.is ∙ ap refused e }
 
-  pub generated-told : Passed img → Makes img c a c' F t (generate rules (contract_at img)) → (a.refusal ≡ 0 → ⊥) → Told img a (generate rules (contract_at img))
+  pub generated_told : Passed img → Makes img c a c' F t (generate rules (contract_at img)) → (a.refusal ≡ 0 → ⊥) → Told img a (generate rules (contract_at img))
   unfolding passed
-  generated-told e h z = by (check_of img) refl e
+  generated_told e h z = by (check_of img) refl e
     where
       by : (x : Seen) → check_of img ≡ x → passed x ≡ ok tt → Told img a (generate rules (contract_at img))
-      by (Sound q m) g e = told-own h z (generated_own rules img q m g)
+      by (Sound q m) g e = told_own h z (generated_own rules img q m g)
       by (Fault n p) g e = absurd (let y : ◌≡◌ {A = ℕ} 0 1 = cc in omega arith)
 
 pub told_room : {img s : List ℕ} {a : Answer} {m : Res Program} → Told img a m → Room m s → length (text_of (generated_as img a.refusal a.place)) ≤ length s
@@ -98,59 +98,59 @@ tells_told {img} {s} {t} {a} {b} {m} h e l = subst (λ (x : Res Program). Tells 
 
 -- The program of an image, by what stands before generation.
 module _ (img : List ℕ) (j : Judged) (e : judged_of img j ≡ judged img) where
-  program-fine : j ≡ is.Fine → program rules img ≡ generate rules (contract_at img)
+  program_fine : j ≡ is.Fine → program rules img ≡ generate rules (contract_at img)
   unfolding program judged_of ◌>>=◌
-  program-fine h = rw (sym e, h) refl
+  program_fine h = rw (sym e, h) refl
 
-  program-bad : (r : Refusal) → judged_of img j ≡ bad r → program rules img ≡ bad r
+  program_bad : (r : Refusal) → judged_of img j ≡ bad r → program rules img ≡ bad r
   unfolding program ◌>>=◌
-  program-bad r h = rw (sym e, h) refl
+  program_bad r h = rw (sym e, h) refl
 
   -- A text has 256 bytes at most.
-  pub judged-room : (s : List ℕ) → 256 ≤ length s → Room (judged_of img j) s
+  pub judged_room : (s : List ℕ) → 256 ≤ length s → Room (judged_of img j) s
   unfolding told_text
-  judged-room s h = by (judged_of img j) refl
+  judged_room s h = by (judged_of img j) refl
     where
       by : (m : Res Contract) → judged_of img j ≡ m → Room m s
       by (ok C) g = record { enough = omega (arith, h) }
-      by (bad r) g = record { enough = omega (arith, h, said_of (texts_fit rules img) (program-bad r g)) }
+      by (bad r) g = record { enough = omega (arith, h, said_of (texts_fit rules img) (program_bad r g)) }
 
-  pub generate-room : (s : List ℕ) → j ≡ is.Fine → 256 ≤ length s → Room (generate rules (contract_at img)) s
+  pub generate_room : (s : List ℕ) → j ≡ is.Fine → 256 ≤ length s → Room (generate rules (contract_at img)) s
   unfolding told_text
-  generate-room s g h = by (generate rules (contract_at img)) refl
+  generate_room s g h = by (generate rules (contract_at img)) refl
     where
       by : (m : Res Program) → generate rules (contract_at img) ≡ m → Room m s
       by (ok P) z = record { enough = omega (arith, h) }
-      by (bad r) z = record { enough = omega (arith, h, said_of (texts_fit rules img) (program-fine g ∙ z)) }
+      by (bad r) z = record { enough = omega (arith, h, said_of (texts_fit rules img) (program_fine g ∙ z)) }
 
   -- What was told of the stage is told of the program.
-  pub told-generated : {s t : List ℕ} {a : Answer} → j ≡ is.Fine → Tells (generate rules (contract_at img)) s t a → Tells (program rules img) s t a
-  told-generated {s} {t} {a} h g = subst (λ (m : Res Program). Tells m s t a) (sym (program-fine h)) g
+  pub told_generated : {s t : List ℕ} {a : Answer} → j ≡ is.Fine → Tells (generate rules (contract_at img)) s t a → Tells (program rules img) s t a
+  told_generated {s} {t} {a} h g = subst (λ (m : Res Program). Tells m s t a) (sym (program_fine h)) g
 
-  told-bad : {s t : List ℕ} {a : Answer} (r : Refusal) → judged_of img j ≡ bad r → Tells (judged_of img j) s t a → Tells (program rules img) s t a
+  told_bad : {s t : List ℕ} {a : Answer} (r : Refusal) → judged_of img j ≡ bad r → Tells (judged_of img j) s t a → Tells (program rules img) s t a
   unfolding told_answer told_text
-  told-bad {s} {t} {a} r h g =
+  told_bad {s} {t} {a} r h g =
       let x = subst (λ (m : Res Contract). Tells m s t a) h g in
-      subst (λ (m : Res Program). Tells m s t a) (sym (program-bad r h)) (record { answers = x.answers; lies = x.lies })
+      subst (λ (m : Res Program). Tells m s t a) (sym (program_bad r h)) (record { answers = x.answers; lies = x.lies })
 
-  pub told-image : {s t : List ℕ} {a : Answer} {n p : ℕ} → j ≡ is.Image n p → Tells (judged_of img j) s t a → Tells (program rules img) s t a
+  pub told_image : {s t : List ℕ} {a : Answer} {n p : ℕ} → j ≡ is.Image n p → Tells (judged_of img j) s t a → Tells (program rules img) s t a
   unfolding judged_of
-  told-image {s} {t} {a} {n} {p} h g = told-bad (Refusal.fault n p) (rw h refl) g
+  told_image {s} {t} {a} {n} {p} h g = told_bad (Refusal.fault n p) (rw h refl) g
 
-  pub told-fault : {s t : List ℕ} {a : Answer} {f : code.Fault} → j ≡ is.Analysis f → Tells (judged_of img j) s t a → Tells (program rules img) s t a
+  pub told_fault : {s t : List ℕ} {a : Answer} {f : code.Fault} → j ≡ is.Analysis f → Tells (judged_of img j) s t a → Tells (program rules img) s t a
   unfolding judged_of
-  told-fault {s} {t} {a} {f} h g = told-bad (fault_of img f) (rw h refl) g
+  told_fault {s} {t} {a} {f} h g = told_bad (fault_of img f) (rw h refl) g
 
-  pub told-ambiguous : {s t : List ℕ} {a : Answer} {p : ℕ} → j ≡ is.Ambiguous p → Tells (judged_of img j) s t a → Tells (program rules img) s t a
+  pub told_ambiguous : {s t : List ℕ} {a : Answer} {p : ℕ} → j ≡ is.Ambiguous p → Tells (judged_of img j) s t a → Tells (program rules img) s t a
   unfolding judged_of
-  told-ambiguous {s} {t} {a} {p} h g = told-bad (Refusal.ambiguous p) (rw h refl) g
+  told_ambiguous {s} {t} {a} {p} h g = told_bad (Refusal.ambiguous p) (rw h refl) g
 
 -- 02: 52 is tested first
 module _ (img s : List ℕ) {a : Answer} where
-  pub short-answer : length s < 256 → a ≡ answer 52 0 0 → (a ≡ text_answer img s) × (s ≡ text_bytes img s)
+  pub short_answer : length s < 256 → a ≡ answer 52 0 0 → (a ≡ text_answer img s) × (s ≡ text_bytes img s)
   unfolding text_answer text_bytes pick
-  short-answer h e = rw (lt-ltb _ _ h) (e, refl)
+  short_answer h e = rw (lt-ltb _ _ h) (e, refl)
 
-  pub whole-answer : {t : List ℕ} → 256 ≤ length s → Tells (program rules img) s t a → (a ≡ text_answer img s) × (t ≡ text_bytes img s)
+  pub whole_answer : {t : List ℕ} → 256 ≤ length s → Tells (program rules img) s t a → (a ≡ text_answer img s) × (t ≡ text_bytes img s)
   unfolding text_answer text_bytes pick
-  whole-answer {t} h e = rw (le-ltb _ _ h) (e.answers, e.lies)
+  whole_answer {t} h e = rw (le-ltb _ _ h) (e.answers, e.lies)

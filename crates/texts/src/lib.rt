@@ -1,4 +1,6 @@
 // The texts of the Rust (02: P1), of any image and any slice.
+#![tactic(auto)]
+
 ghost use Rattle.std.specs.Prelude.{◌≡◌, ◌≤◌, length};
 ghost use Rattle.rules.specs.Build.{rules};
 ghost use Rattle.rules.specs.Link.{generate};

@@ -1,7 +1,7 @@
 -- One step down, for each kind of statement.
---     ends-ans, row-moves         a part and the statement's own words behind it; let-in, .., just-in
---     if_cond, .., while-loop, for_loop       If, While and For
---     return-first, .., mapping-right         Return and MappingWrite
+--     ends_ans, row-moves         a part and the statement's own words behind it; let_in, .., just_in
+--     if_cond, .., while_loop, for_loop       If, While and For
+--     return_first, .., mapping_right         Return and MappingWrite
 -- Assumes nothing.
 use Rattle.std.specs.Prelude.{◌≡◌, Bool, leb, ltb, get_or, set}
 use Rattle.std.proofs.Math.Path.{refl, sym, ap, subst}
@@ -27,7 +27,7 @@ use Rattle.emit.specs.Steps as emitting
 use Rattle.emit.specs.Steps.{Out, ◌>>=◌, done, say, ask, at, Here, looping, gen-stmt, gen-stmts}
 use Rattle.emit.specs.Ran.{Tally}
 use Rattle.emit.specs.State.{rules_of, tally, fresh, Takes, Keeps}
-use Rattle.rules.specs.Generate.{alloc-reg}
+use Rattle.rules.specs.Generate.{alloc_reg_lem}
 use Rattle.expr.specs.Scope.{scope_in}
 use Rattle.stmt.specs.Frame.{Ready, Frame, Binds}
 use Rattle.stmt.specs.Runs.{here, taken, Opens}
@@ -36,12 +36,12 @@ use Rattle.stmt.proofs.Trees.{else_some, else_none, value_some, value_none}
 use Rattle.seek.specs.declared.Spot.{Spot}
 use Rattle.seek.specs.declared.Step.{Step}
 use Rattle.seek.specs.Goes.{Goes, split, goes_done, goes_behind}
-use Rattle.seek.specs.Found.{some_same, Found, found_first, found-later, found_asked, found_front, found_back, each_none, each_more, Own, found_own, own-done, own-asks, own-says, own-pick, Long, long_done, long_says, long_asks}
+use Rattle.seek.specs.Found.{some_same, Found, found_first, found_later, found_asked, found_front, found_back, each_none, each_more, Own, found_own, own_done, own_asks, own_says, own_pick, Long, long_done, long_says, long_asks}
 use Rattle.seek.specs.Spots as spots
 use Rattle.seek.specs.Spots.{plain, ahead, spot_of, told, owned, leaping, into, spot_in_lem, steps, Counts, Finds, Ans, Row}
-use Rattle.seek.specs.Parts.{is_found, deep, into-first, row-own, takes_fresh, fresh-own, fresh-past}
+use Rattle.seek.specs.Parts.{is_found, deep, into_first, row_own, takes_fresh, fresh_own, fresh_past}
 use Rattle.trace.specs.Moves.{entering, CountedAll, CountedElse, other, none, Blocks, Ends, owns, value, block, Loops, jnz, jmp, back, body, Moves}
-use Rattle.trace.specs.Turns.{found_last, behind_is, behind-own, behind-in, loop-cond, loop-jnz, loop-jmp, loop-back, loop-in}
+use Rattle.trace.specs.Turns.{found_last, behind_is, behind_own, behind_in, loop_cond, loop-jnz, loop-jmp, loop-back, loop-in}
 
 -- A step that is known to stay, or to leap.
 module _ {img s : List ℕ} {R : Rules} {d want : ℕ} {r : Step} {a : Spot} where
@@ -60,16 +60,16 @@ module _ {img s : List ℕ} {R : Rules} {d want : ℕ} {r : Step} {a : Spot} whe
   enters e (value f h) = absurd (omega (arith, sym (ap (λ (x : Step). x.way) e) ∙ f))
   enters {l} {e} {z} q (block f h) = subst (λ (x : Step). Blocks img s R d x.place x.st x.to want a) q h
 
-  pub ends-into : {x e : ℕ} {z : St} → r ≡ into x e z → Ends img s R d want r a → Ans img s R d want r a
-  ends-into e (owns f g h) = spots.owns f h
-  ends-into e (value f h) = spots.goes f h
-  ends-into e (block f h) = absurd (omega (arith, sym (ap (λ (x : Step). x.way) e) ∙ f))
+  pub ends_into : {x e : ℕ} {z : St} → r ≡ into x e z → Ends img s R d want r a → Ans img s R d want r a
+  ends_into e (owns f g h) = spots.owns f h
+  ends_into e (value f h) = spots.goes f h
+  ends_into e (block f h) = absurd (omega (arith, sym (ap (λ (x : Step). x.way) e) ∙ f))
 
-  ends-ans : {x p : ℕ} {z : St} → Row img s R d x p z want r → Ends img s R d want r a → Ans img s R d want r a
-  ends-ans (spots.inside t c l e) h = ends-into e h
-  ends-ans (spots.behind t c l e) (owns f g h) = spots.owns f h
-  ends-ans (spots.behind t c l e) (value f h) = spots.goes f h
-  ends-ans (spots.behind t c l e) (block f h) = absurd (omega (arith, sym (ap (λ (x : Step). x.way) e) ∙ f))
+  ends_ans : {x p : ℕ} {z : St} → Row img s R d x p z want r → Ends img s R d want r a → Ans img s R d want r a
+  ends_ans (spots.inside t c l e) h = ends_into e h
+  ends_ans (spots.behind t c l e) (owns f g h) = spots.owns f h
+  ends_ans (spots.behind t c l e) (value f h) = spots.goes f h
+  ends_ans (spots.behind t c l e) (block f h) = absurd (omega (arith, sym (ap (λ (x : Step). x.way) e) ∙ f))
 
 -- The part that a step leads into.
 part_of : {img s : List ℕ} {R : Rules} {d x e want : ℕ} {z : St} {r : Step} {a : Spot} → r ≡ into x e z → Ans img s R d want r a → Found (told img want) (steps img s R (expr_at d img x) z) (tally z) e want a
@@ -82,109 +82,109 @@ row_block (spots.behind t c l e) f = omega (arith, sym (ap (λ (x : Step). x.way
 
 module _ {img t N s : List ℕ} {R : Rules} {d want end i : ℕ} {st : St} {r : Step} where
   -- one value, and the statement's own words behind it
-  pub let-in : {x y : ℕ} → x ≡ inside img i → y ≡ after img x → Row img s R d y i st want r → Moves img t N s s R d sLet i st end want r
+  pub let_in : {x y : ℕ} → x ≡ inside img i → y ≡ after img x → Row img s R d y i st want r → Moves img t N s s R d sLet i st end want r
   unfolding stmt_as gen-stmt spot_of
-  let-in e f w = record {
-    leads = λ a h. rw (← e, ← f) (row-own w _ (λ v. own-pick _ (own-done _) (own-pick _ (own-asks _ (λ x. own-says (each_more _ _ refl each_none) (λ y. own-done _))) (own-done _))) (ends-ans w h));
+  let_in e f w = record {
+    leads = λ a h. rw (← e, ← f) (row_own w _ (λ v. own_pick _ (own_done _) (own_pick _ (own_asks _ (λ x. own_says (each_more _ _ refl each_none) (λ y. own_done _))) (own_done _))) (ends_ans w h));
     ready = λ q. absurd (row_block w q);
   }
 
-  pub constrain-in : {x : ℕ} → x ≡ inside img i → Row img s R d x i st want r → Moves img t N s s R d sConstrain i st end want r
+  pub constrain_in : {x : ℕ} → x ≡ inside img i → Row img s R d x i st want r → Moves img t N s s R d sConstrain i st end want r
   unfolding stmt_as gen-stmt spot_of
-  constrain-in e w = record { leads = λ a h. rw (← e) (row-own w _ (λ v. own-says (each_more _ _ refl each_none) (λ y. own-done _)) (ends-ans w h)); ready = λ q. absurd (row_block w q) }
+  constrain_in e w = record { leads = λ a h. rw (← e) (row_own w _ (λ v. own_says (each_more _ _ refl each_none) (λ y. own_done _)) (ends_ans w h)); ready = λ q. absurd (row_block w q) }
 
-  pub assign-in : {x y : ℕ} → x ≡ inside img i → y ≡ after img x → Row img s R d y i st want r → Moves img t N s s R d sAssign i st end want r
+  pub assign_in : {x y : ℕ} → x ≡ inside img i → y ≡ after img x → Row img s R d y i st want r → Moves img t N s s R d sAssign i st end want r
   unfolding stmt_as gen-stmt spot_of
-  assign-in e f w = record {
-    leads = λ a h. rw (← e, ← f) (row-own w _ (λ v. own-asks _ (λ x. own-says (each_more _ _ refl each_none) (λ y. own-done _))) (ends-ans w h));
+  assign_in e f w = record {
+    leads = λ a h. rw (← e, ← f) (row_own w _ (λ v. own_asks _ (λ x. own_says (each_more _ _ refl each_none) (λ y. own_done _))) (ends_ans w h));
     ready = λ q. absurd (row_block w q);
   }
 
-  pub storage-in : {x y : ℕ} → x ≡ inside img i → y ≡ after img x → Row img s R d y i st want r → Moves img t N s s R d sStorage i st end want r
+  pub storage_in : {x y : ℕ} → x ≡ inside img i → y ≡ after img x → Row img s R d y i st want r → Moves img t N s s R d sStorage i st end want r
   unfolding stmt_as gen-stmt spot_of
-  storage-in e f w = record {
-    leads = λ a h. rw (← e, ← f) (row-own w _ (λ v. own-asks _ (λ x. own-says (each_more _ _ refl each_none) (λ y. own-done _))) (ends-ans w h));
+  storage_in e f w = record {
+    leads = λ a h. rw (← e, ← f) (row_own w _ (λ v. own_asks _ (λ x. own_says (each_more _ _ refl each_none) (λ y. own_done _))) (ends_ans w h));
     ready = λ q. absurd (row_block w q);
   }
 
-  pub just-in : {x : ℕ} → x ≡ inside img i → Row img s R d x i st want r → Moves img t N s s R d sExpr i st end want r
+  pub just_in : {x : ℕ} → x ≡ inside img i → Row img s R d x i st want r → Moves img t N s s R d sExpr i st end want r
   unfolding stmt_as gen-stmt
-  just-in e w = record { leads = λ a h. rw (← e) (row-own w _ (λ v. own-done _) (ends-ans w h)); ready = λ q. absurd (row_block w q) }
+  just_in e w = record { leads = λ a h. rw (← e) (row_own w _ (λ v. own_done _) (ends_ans w h)); ready = λ q. absurd (row_block w q) }
 
   -- MappingWrite
-  pub mapping-left : {x y : ℕ} {v : St} → x ≡ inside img i → y ≡ after img x → Counts img s R d y st v → want < v.n → r ≡ into y v.n st → Moves img t N s s R d sMapping i st end want r
+  pub mapping_left : {x y : ℕ} {v : St} → x ≡ inside img i → y ≡ after img x → Counts img s R d y st v → want < v.n → r ≡ into y v.n st → Moves img t N s s R d sMapping i st end want r
   unfolding stmt_as gen-stmt
-  mapping-left e f c l q = record {
-    leads = λ a h. rw (← e, ← f) (found_asked _ (λ k. into-first c l q (ends-into q h) _));
+  mapping_left e f c l q = record {
+    leads = λ a h. rw (← e, ← f) (found_asked _ (λ k. into_first c l q (ends_into q h) _));
     ready = λ z. absurd (omega (arith, sym (ap (λ (x : Step). x.way) q) ∙ z));
   }
 
-  pub mapping-right : {x y z : ℕ} {v : St} → x ≡ inside img i → y ≡ after img x → z ≡ after img y → Counts img s R d y st v → v.n ≤ want → Row img s R d z i v want r
+  pub mapping_right : {x y z : ℕ} {v : St} → x ≡ inside img i → y ≡ after img x → z ≡ after img y → Counts img s R d y st v → v.n ≤ want → Row img s R d z i v want r
       → Moves img t N s s R d sMapping i st end want r
   unfolding stmt_as gen-stmt spot_of
-  mapping-right e f g c l w = record {
-    leads = λ a h. rw (← e, ← f, ← g) (found_asked _ (λ k. found-later (told img want) _ c.goes l (row-own w _ (λ u.
-        own-asks _ (λ b. own-says (each_more _ _ refl each_none) (λ y. own-asks _ (λ t. own-says (each_more _ _ refl (each_more _ _ refl each_none)) (λ z. own-done _))))) (ends-ans w h))));
+  mapping_right e f g c l w = record {
+    leads = λ a h. rw (← e, ← f, ← g) (found_asked _ (λ k. found_later (told img want) _ c.goes l (row_own w _ (λ u.
+        own_asks _ (λ b. own_says (each_more _ _ refl each_none) (λ y. own_asks _ (λ t. own_says (each_more _ _ refl (each_more _ _ refl each_none)) (λ z. own_done _))))) (ends_ans w h))));
     ready = λ q. absurd (row_block w q);
   }
 
   -- Return
-  pub return-first : {a z q : St} → Takes R st a i → Keeps a q → want < q.n → r ≡ owned i z → Moves img t N s s R d sReturn i st end want r
+  pub return_first : {a z q : St} → Takes R st a i → Keeps a q → want < q.n → r ≡ owned i z → Moves img t N s s R d sReturn i st end want r
   unfolding stmt_as gen-stmt spot_of
-  return-first {a} {z} {q} k p l e = record {
+  return_first {a} {z} {q} k p l e = record {
     leads = λ y h. is_found (stays e h) (go (ltb (inside img i) (after img i)));
     ready = λ y. absurd (omega (arith, sym (ap (λ (x : Step). x.way) e) ∙ y));
   }
     where
       go : (b : Bool) → Found (told img want) (gen-stmt (rules_of R) (contract_at img) (when b (λ _. Stmt.return i (expr_at d img (inside img i))) (Stmt.return-none i)) (scope_in img s) st.next) (tally st) end want (plain i)
-      go true = fresh-own (told img want) _ (λ x. pop i x) _ (takes_fresh (contract_at img) _ k p) (λ x. refl) l
-      go false = fresh-own (told img want) _ (λ x. pop i x) _ (takes_fresh (contract_at img) _ k p) (λ x. refl) l
+      go true = fresh_own (told img want) _ (λ x. pop i x) _ (takes_fresh (contract_at img) _ k p) (λ x. refl) l
+      go false = fresh_own (told img want) _ (λ x. pop i x) _ (takes_fresh (contract_at img) _ k p) (λ x. refl) l
 
-  pub return-value : {x e : ℕ} {a q : St} → x ≡ inside img i → e ≡ after img i → x < e → Takes R st a i → Keeps a q → q.n ≤ want → Row img s R d x i q want r → Moves img t N s s R d sReturn i st end want r
+  pub return_value : {x e : ℕ} {a q : St} → x ≡ inside img i → e ≡ after img i → x < e → Takes R st a i → Keeps a q → q.n ≤ want → Row img s R d x i q want r → Moves img t N s s R d sReturn i st end want r
   unfolding gen-stmt spot_of
-  return-value {x} {e} {a} {q} f g b k p l w = record {
+  return_value {x} {e} {a} {q} f g b k p l w = record {
     leads = λ y h.
         let n : q.next ≡ suc (a.reg % 256) = p.next ∙ k.next in
         let c : inside img i < after img i = rw (f, g) at b in
-        rw (value_some (expr_at d img) (stmt_at_lem d img) img i c) (fresh-past (told img want) _ (λ x. pop i x) _ (takes_fresh (contract_at img) _ k p) l (rw (← f, ← n)
-        (row-own w _ (λ v. own-says (each_more _ _ refl (each_more _ _ refl (each_more _ _ refl each_none))) (λ u. own-done _)) (ends-ans w h))));
+        rw (value_some (expr_at d img) (stmt_at_lem d img) img i c) (fresh_past (told img want) _ (λ x. pop i x) _ (takes_fresh (contract_at img) _ k p) l (rw (← f, ← n)
+        (row_own w _ (λ v. own_says (each_more _ _ refl (each_more _ _ refl (each_more _ _ refl each_none))) (λ u. own_done _)) (ends_ans w h))));
     ready = λ y. absurd (row_block w y);
   }
 
-  pub return-rest : {x e : ℕ} {z : St} → x ≡ inside img i → e ≡ after img i → e ≤ x → r ≡ owned i z → Moves img t N s s R d sReturn i st end want r
+  pub return_rest : {x e : ℕ} {z : St} → x ≡ inside img i → e ≡ after img i → e ≤ x → r ≡ owned i z → Moves img t N s s R d sReturn i st end want r
   unfolding gen-stmt spot_of
-  return-rest {x} {e} f g b q = record {
+  return_rest {x} {e} f g b q = record {
     leads = λ y h.
         let c : after img i ≤ inside img i = rw (f, g) at b in
-        is_found (stays q h) (rw (value_none (expr_at d img) (stmt_at_lem d img) img i c) (found_own (own-asks _ (λ t. own-says (each_more _ _ refl each_none) (λ w. own-asks _ (λ z.
-        own-says (each_more _ _ refl (each_more _ _ refl (each_more _ _ refl (each_more _ _ refl each_none)))) (λ u. own-done _)))))));
+        is_found (stays q h) (rw (value_none (expr_at d img) (stmt_at_lem d img) img i c) (found_own (own_asks _ (λ t. own_says (each_more _ _ refl each_none) (λ w. own_asks _ (λ z.
+        own_says (each_more _ _ refl (each_more _ _ refl (each_more _ _ refl (each_more _ _ refl each_none)))) (λ u. own_done _)))))));
     ready = λ y. absurd (omega (arith, sym (ap (λ (x : Step). x.way) q) ∙ y));
   }
 
   -- While
-  pub while-cond : {x : ℕ} {v : St} → x ≡ inside img i → Counts img s R d x st v → want < v.n → r ≡ into x v.n st → Moves img t N s s R d sWhile i st end want r
+  pub while_cond : {x : ℕ} {v : St} → x ≡ inside img i → Counts img s R d x st v → want < v.n → r ≡ into x v.n st → Moves img t N s s R d sWhile i st end want r
   unfolding stmt_as gen-stmt
-  while-cond {x} {v} e c l q = record {
-    leads = λ a h. rw (← e) (loop-cond (told img want) i _ _ c.goes l (part_of q (ends-into q h)));
+  while_cond {x} {v} e c l q = record {
+    leads = λ a h. rw (← e) (loop_cond (told img want) i _ _ c.goes l (part_of q (ends_into q h)));
     ready = λ z. absurd (omega (arith, sym (ap (λ (x : Step). x.way) q) ∙ z));
   }
 
-  pub while-loop : {x y : ℕ} {v : St} → x ≡ inside img i → y ≡ after img x → Ready img t N s (vars (taken sWhile d img i)) → Counts img s R d x st v → v.n ≤ want → Loops i y st.next 1 v end want r
+  pub while_loop : {x y : ℕ} {v : St} → x ≡ inside img i → y ≡ after img x → Ready img t N s (vars (taken sWhile d img i)) → Counts img s R d x st v → v.n ≤ want → Loops i y st.next 1 v end want r
       → Moves img t N s s R d sWhile i st end want r
   unfolding stmt_as gen-stmt spot_of landing vars
-  while-loop {x} {y} {v} e f z c l (jnz j a k o b q) = record {
+  while_loop {x} {y} {v} e f z c l (jnz j a k o b q) = record {
     leads = λ p h. is_found (leaps q h) (rw (← e, ← f) (loop-jnz (told img want) i _ _ c.goes k.reserved o.reserved l b (λ g w n. ap (ahead i) (omega (arith, w, n)))));
     ready = λ m. absurd (omega (arith, sym (ap (λ (x : Step). x.way) q) ∙ m));
   }
-  while-loop {x} {y} {v} e f z c l (jmp j a k o b g q) = record {
+  while_loop {x} {y} {v} e f z c l (jmp j a k o b g q) = record {
     leads = λ p h. is_found (leaps q h) (rw (← e, ← f) (loop-jmp (told img want) i _ _ c.goes k.reserved o.reserved b g (λ n w. ap (ahead i) w)));
     ready = λ m. absurd (omega (arith, sym (ap (λ (x : Step). x.way) q) ∙ m));
   }
-  while-loop {x} {y} {v} e f z c l (back j a k o b g q) = record {
+  while_loop {x} {y} {v} e f z c l (back j a k o b g q) = record {
     leads = λ p h. is_found (stays q h) (rw (← e, ← f) (loop-back (told img want) i _ _ c.goes k.reserved o.reserved b (leb-true _ _ g) (λ n. refl)));
     ready = λ m. absurd (omega (arith, sym (ap (λ (x : Step). x.way) q) ∙ m));
   }
-  while-loop {x} {y} {v} e f z c l (body j a k o b g q) = record {
+  while_loop {x} {y} {v} e f z c l (body j a k o b g q) = record {
     leads = λ p h. rw (← e, ← f) (loop-in (told img want) i _ _ c.goes k.reserved o.reserved b (leb-false _ _ g) (rw (← o.next) (enters q h).found));
     ready = λ m. let u = rw (← e, ← f) at z in subst (λ (x : Step). Ready img t N s (vars-stmts (body_at (stmt_at_lem d img) img x.place))) (sym q) u;
   }
@@ -210,19 +210,19 @@ pub record Branch (img s u : List ℕ) (R : Rules) (d i x y z stop : ℕ) (st v 
 
 module _ {img s u : List ℕ} {R : Rules} {d i x y z stop : ℕ} {st v a e b : St} (B : Branch img s u R d i x y z stop st v a e b) where
   -- the statement, by these places
-  parts_are : taken sIf d img i ≡ Stmt.if-else i (expr_at d img x) (body_at (stmt_at_lem d img) img y) (else_at (stmt_at_lem d img) img z stop)
+  parts_are : taken sIf d img i ≡ Stmt.if_else i (expr_at d img x) (body_at (stmt_at_lem d img) img y) (else_at (stmt_at_lem d img) img z stop)
   unfolding stmt_as
   parts_are =
       let f : second img i ≡ y = ap (after img) (sym B.cond) ∙ sym B.then in
       let g : third img i ≡ z = ap (after img) f ∙ sym B.else in
-      λ j. Stmt.if-else i (expr_at d img (sym B.cond j)) (body_at (stmt_at_lem d img) img (f j)) (else_at (stmt_at_lem d img) img (g j) (sym B.ends j))
+      λ j. Stmt.if_else i (expr_at d img (sym B.cond j)) (body_at (stmt_at_lem d img) img (f j)) (else_at (stmt_at_lem d img) img (g j) (sym B.ends j))
 
   abbrev others : Res (Out Here)
   others = gen-stmts (rules_of R) (contract_at img) (else_at (stmt_at_lem d img) img z stop) (scope_in img s) st.next
 
-  goes-else : Goes (tally a) (tally e) (here (scope_in img u) e.next) others
+  goes_else : Goes (tally a) (tally e) (here (scope_in img u) e.next) others
   unfolding gen-stmts
-  goes-else = go B.counted
+  goes_else = go B.counted
     where
       go : CountedElse R img d z stop a s e u → Goes (tally a) (tally e) (here (scope_in img u) e.next) others
       go (other l h) = rw (else_some (stmt_at_lem d img) img z stop l, ← B.opens.next) h.goes
@@ -234,27 +234,27 @@ module _ {img s u : List ℕ} {R : Rules} {d i x y z stop : ℕ} {st v a e b : S
   abbrev skips : ℕ → Open
   skips n = jump i op.Jmp 0 (Imm.pos (n + 1))
 
-  abbrev over-else : Res (Out Here)
-  over-else = emitting.behind (λ ws. jumps (length ws) ∷ ws) others
+  abbrev over_else : Res (Out Here)
+  over_else = emitting.behind (λ ws. jumps (length ws) ∷ ws) others
 
-  abbrev over-then : Here → Res (Out Here)
-  over-then h = emitting.behind (λ ws. skips (length ws) ∷ ws) (gen-stmts (rules_of R) (contract_at img) (body_at (stmt_at_lem d img) img y) h.scope h.next)
+  abbrev over_then : Here → Res (Out Here)
+  over_then h = emitting.behind (λ ws. skips (length ws) ∷ ws) (gen-stmts (rules_of R) (contract_at img) (body_at (stmt_at_lem d img) img y) h.scope h.next)
 
-  goes-jnz : Goes (tally v) (tally e) (here (scope_in img u) e.next) over-else
-  goes-jnz = goes_behind jumps B.opens.reserved goes-else
+  goes_jnz : Goes (tally v) (tally e) (here (scope_in img u) e.next) over_else
+  goes_jnz = goes_behind jumps B.opens.reserved goes_else
 
   -- what is found behind the condition is found in the statement
-  whole : {want end : ℕ} {p : Spot} → v.n ≤ want → Found (told img want) (over-else >>= over-then) (tally v) end want p
+  whole : {want end : ℕ} {p : Spot} → v.n ≤ want → Found (told img want) (over_else >>= over_then) (tally v) end want p
       → Found (told img want) (gen-stmt (rules_of R) (contract_at img) (taken sIf d img i) (scope_in img s) st.next) (tally st) end want p
   unfolding gen-stmt
-  whole {want} l h = rw parts_are (found-later (told img want) _ B.counts.goes l h)
+  whole {want} l h = rw parts_are (found_later (told img want) _ B.counts.goes l h)
 
   -- the Jnz, over `else`
-  over : {want end : ℕ} → v.n ≤ want → want < a.n → Found (told img want) (over-else >>= over-then) (tally v) end want (ahead i b.n)
+  over : {want end : ℕ} → v.n ≤ want → want < a.n → Found (told img want) (over_else >>= over_then) (tally v) end want (ahead i b.n)
   unfolding spot_of landing nth
   over {want} {end} l m = record {
     is = λ fine y g n low le w x.
-        let j = split over-else over-then y g in
+        let j = split over_else over_then y g in
         let f = behind_is (λ ws. jumps (length ws) ∷ ws) _ j.one j.first in
         let h = behind_is (λ ws. skips (length ws) ∷ ws) _ j.two j.second in
         let p = ap length f.words in
@@ -262,7 +262,7 @@ module _ {img s u : List ℕ} {R : Rules} {d i x y z stop : ℕ} {st v a e b : S
         let k = B.opens.reserved in
         let o = B.keeps.reserved in
         let ca = k.count (k.low (omega (arith, low, n, j.long, p))) in
-        let ge = goes-else.on (k.err ∙ fine) f.out f.is (omega (arith, low, n, j.long, p, q, ca)) in
+        let ge = goes_else.on (k.err ∙ fine) f.out f.is (omega (arith, low, n, j.long, p, q, ca)) in
         let cb = o.count (o.low (omega (arith, low, n, j.long, p, q, ca, ge.2))) in
         let z : want - v.n ≡ 0 = omega (arith, l, m, ca) in
         let same : y.words ≡ jumps (length f.out.words) ∷ (f.out.words ++ j.two.words) = j.words ∙ ap (λ (ws : List Open). ws ++ j.two.words) f.words in
@@ -271,23 +271,23 @@ module _ {img s u : List ℕ} {R : Rules} {d i x y z stop : ℕ} {st v a e b : S
   }
 
 module _ {img t N s u : List ℕ} {R : Rules} {d want end i x y z stop : ℕ} {st v a e b : St} {r : Step} (B : Branch img s u R d i x y z stop st v a e b) where
-  pub if-jnz : v.n ≤ want → want < a.n → r ≡ leaping i b.n st → Moves img t N s u R d sIf i st end want r
-  if-jnz l m q = record {
+  pub if_jnz : v.n ≤ want → want < a.n → r ≡ leaping i b.n st → Moves img t N s u R d sIf i st end want r
+  if_jnz l m q = record {
     leads = λ p h. is_found (leaps q h) (whole B l (over B l m));
     ready = λ m. absurd (omega (arith, sym (ap (λ (x : Step). x.way) q) ∙ m));
   }
 
-  pub if-jmp : v.n ≤ want → e.n ≤ want → want < b.n → r ≡ leaping i end st → Moves img t N s u R d sIf i st end want r
+  pub if_jmp : v.n ≤ want → e.n ≤ want → want < b.n → r ≡ leaping i end st → Moves img t N s u R d sIf i st end want r
   unfolding spot_of landing
-  if-jmp l m n q = record {
-    leads = λ p h. is_found (leaps q h) (whole B l (found-later (told img want) _ (goes-jnz B) m (behind-own (told img want) (skips B) _ B.keeps.reserved n (λ y g x f. ap (ahead i) (omega (arith, x, f))))));
+  if_jmp l m n q = record {
+    leads = λ p h. is_found (leaps q h) (whole B l (found_later (told img want) _ (goes_jnz B) m (behind_own (told img want) (skips B) _ B.keeps.reserved n (λ y g x f. ap (ahead i) (omega (arith, x, f))))));
     ready = λ m. absurd (omega (arith, sym (ap (λ (x : Step). x.way) q) ∙ m));
   }
 
-  pub if-then : Ready img t N s (vars (taken sIf d img i)) → length u ≡ length s → v.n ≤ want → e.n ≤ want → b.n ≤ want → r ≡ entering y end b → Moves img t N s u R d sIf i st end want r
+  pub if_then : Ready img t N s (vars (taken sIf d img i)) → length u ≡ length s → v.n ≤ want → e.n ≤ want → b.n ≤ want → r ≡ entering y end b → Moves img t N s u R d sIf i st end want r
   unfolding vars
-  if-then f g l m n q = record {
-    leads = λ p h. whole B l (found-later (told img want) _ (goes-jnz B) m (behind-in (told img want) (skips B) _ B.keeps.reserved n (rw (← B.keeps.next) (enters q h).found)));
+  if_then f g l m n q = record {
+    leads = λ p h. whole B l (found_later (told img want) _ (goes_jnz B) m (behind_in (told img want) (skips B) _ B.keeps.reserved n (rw (← B.keeps.next) (enters q h).found)));
     ready = λ _. subst (λ (x : Step). Ready img t N u (vars-stmts (body_at (stmt_at_lem d img) img x.place))) (sym q) (room B.counted (rw (parts_are B) at f));
   }
     where
@@ -296,10 +296,10 @@ module _ {img t N s u : List ℕ} {R : Rules} {d want end i x y z stop : ℕ} {s
       room (none l p q) f = rw q (fewer f (omega arith))
 
   -- in `else`, the scope put back
-  pub if-else : Ready img t N s (vars (taken sIf d img i)) → length u ≡ length s → v.n ≤ want → a.n ≤ want → want < e.n → r ≡ entering z e.n a
+  pub if_else : Ready img t N s (vars (taken sIf d img i)) → length u ≡ length s → v.n ≤ want → a.n ≤ want → want < e.n → r ≡ entering z e.n a
       → Moves img t N s (set u 0 (get_or s 0 0)) R d sIf i st end want r
   unfolding vars
-  if-else f y l m n q = go B.counted
+  if_else f y l m n q = go B.counted
     where
       go : CountedElse R img d z stop a s e u → Moves img t N s (set u 0 (get_or s 0 0)) R d sIf i st end want r
       go (none x p j) = absurd (omega (arith, m, n, ap (λ (x : St). x.n) p))
@@ -307,7 +307,7 @@ module _ {img t N s u : List ℕ} {R : Rules} {d want end i x y z stop : ℕ} {s
           let g : 0 < length u = omega (arith, y, f.size) in
           let k = rw (else_some (stmt_at_lem d img) img z stop x) at (rw (parts_are B) at f) in
           record {
-            leads = λ p j. whole B l (found_first (told img want) _ (goes-jnz B) n (behind-in (told img want) (jumps B) _ B.opens.reserved m
+            leads = λ p j. whole B l (found_first (told img want) _ (goes_jnz B) n (behind_in (told img want) (jumps B) _ B.opens.reserved m
                 (rw (else_some (stmt_at_lem d img) img z stop x, ← put_back img h.frame g, ← B.opens.next) (enters q j).found)));
             ready = λ _. subst (λ (x : Step). Ready img t N (set u 0 (get_or s 0 0)) (vars-stmts (body_at (stmt_at_lem d img) img x.place))) (sym q) (restored u g y (fewer k (omega arith)));
           }
@@ -315,7 +315,7 @@ module _ {img t N s u : List ℕ} {R : Rules} {d want end i x y z stop : ℕ} {s
 pub if_cond : {img t N s : List ℕ} {R : Rules} {d want end i x : ℕ} {st v : St} {r : Step} → x ≡ inside img i → Counts img s R d x st v → want < v.n → r ≡ into x v.n st → Moves img t N s s R d sIf i st end want r
 unfolding stmt_as gen-stmt
 if_cond e c l q = record {
-  leads = λ a h. rw (← e) (into-first c l q (ends-into q h) _);
+  leads = λ a h. rw (← e) (into_first c l q (ends_into q h) _);
   ready = λ z. absurd (omega (arith, sym (ap (λ (x : Step). x.way) q) ∙ z));
 }
 
@@ -333,9 +333,9 @@ pub record Heading (img s : List ℕ) (R : Rules) (d i x y z q : ℕ) (st v w a 
   pub tested : Keeps c l
 
 module _ {img s : List ℕ} {R : Rules} {d i x y z q : ℕ} {st v w a n c l : St} (H : Heading img s R d i x y z q st v w a n c l) where
-  for-is : taken sFor d img i ≡ Stmt.for i (name_at img x) (expr_at d img y) (expr_at d img z) (body_at (stmt_at_lem d img) img q)
+  for_is : taken sFor d img i ≡ Stmt.for i (name_at img x) (expr_at d img y) (expr_at d img z) (body_at (stmt_at_lem d img) img q)
   unfolding stmt_as
-  for-is =
+  for_is =
       let f : second img i ≡ y = ap (after img) (sym H.var) ∙ sym H.from in
       let g : third img i ≡ z = ap (after img) f ∙ sym H.to in
       let h : fourth img i ≡ q = ap (after img) g ∙ sym H.list in
@@ -345,62 +345,62 @@ module _ {img s : List ℕ} {R : Rules} {d i x y z q : ℕ} {st v w a n c l : St
   number = a.reg % 256
 
   abbrev less : Res (Out AtReg)
-  less = fresh (alloc-reg (rules_of R) (contract_at img) i (suc number)) (λ c. emit i op.Lt c number (w.reg % 256) (Imm.pos 0))
+  less = fresh (alloc_reg_lem (rules_of R) (contract_at img) i (suc number)) (λ c. emit i op.Lt c number (w.reg % 256) (Imm.pos 0))
 
-  abbrev step-on : Here → Res (Out Here)
-  step-on h = ask (alloc-reg (rules_of R) (contract_at img) i h.next) >>= λ o. say (load i o 1 ∷ add i number number o ∷ []) >>= λ u. done (here (scope_in img s) st.next)
+  abbrev step_on : Here → Res (Out Here)
+  step_on h = ask (alloc_reg_lem (rules_of R) (contract_at img) i h.next) >>= λ o. say (load i o 1 ∷ add i number number o ∷ []) >>= λ u. done (here (scope_in img s) st.next)
 
   abbrev inner : Res (Out Here)
   inner = gen-stmts (rules_of R) (contract_at img) (body_at (stmt_at_lem d img) img q) (with_name (name_at img x) number (scope_in img s)) (suc number)
 
   abbrev turns : Res (Out Here)
-  turns = looping i less (λ c. inner >>= step-on)
+  turns = looping i less (λ c. inner >>= step_on)
 
-  goes-less : Goes (tally n) (tally l) (at (c.reg % 256) (suc (c.reg % 256))) less
-  goes-less = let e : n.next ≡ suc number = H.keeps.next ∙ H.takes.next in rw (← e) (takes_fresh (contract_at img) _ H.tests H.tested)
+  goes_less : Goes (tally n) (tally l) (at (c.reg % 256) (suc (c.reg % 256))) less
+  goes_less = let e : n.next ≡ suc number = H.keeps.next ∙ H.takes.next in rw (← e) (takes_fresh (contract_at img) _ H.tests H.tested)
 
   -- what is found behind the Add is found in the statement
   in_turns : {want end : ℕ} {p : Spot} → v.n ≤ want → w.n ≤ want → n.n ≤ want → Found (told img want) turns (tally n) end want p
       → Found (told img want) (gen-stmt (rules_of R) (contract_at img) (taken sFor d img i) (scope_in img s) st.next) (tally st) end want p
   unfolding gen-stmt
-  in_turns {want} b e f h = rw for-is (found-later (told img want) _ H.begins.goes b (found-later (told img want) _ H.ends.goes e
-      (fresh-past (told img want) _ (λ k. add i k (v.reg % 256) 0) _ (takes_fresh (contract_at img) _ H.takes H.keeps) f (found_last (told img want) turns _ (λ u. long_done _) h))))
+  in_turns {want} b e f h = rw for_is (found_later (told img want) _ H.begins.goes b (found_later (told img want) _ H.ends.goes e
+      (fresh_past (told img want) _ (λ k. add i k (v.reg % 256) 0) _ (takes_fresh (contract_at img) _ H.takes H.keeps) f (found_last (told img want) turns _ (λ u. long_done _) h))))
 
-  stepped : (h : Here) → Long 2 (step-on h)
+  stepped : (h : Here) → Long 2 (step_on h)
   stepped h = long_asks _ (λ o. long_says (load i o 1 ∷ add i number number o ∷ []) (λ u. long_done _))
 
-  mine : (want : ℕ) (h : Here) → Own (told img want) (plain i) (step-on h)
+  mine : (want : ℕ) (h : Here) → Own (told img want) (plain i) (step_on h)
   unfolding spot_of
-  mine want h = own-asks _ (λ o. own-says (each_more _ _ refl (each_more _ _ refl each_none)) (λ u. own-done _))
+  mine want h = own_asks _ (λ o. own_says (each_more _ _ refl (each_more _ _ refl each_none)) (λ u. own_done _))
 
 module _ {img t N s : List ℕ} {R : Rules} {d want end i : ℕ} {st : St} {r : Step} where
-  pub for-from : {x y : ℕ} {v : St} → x ≡ inside img i → y ≡ after img x → Counts img s R d y st v → want < v.n → r ≡ into y v.n st → Moves img t N s s R d sFor i st end want r
+  pub for_from : {x y : ℕ} {v : St} → x ≡ inside img i → y ≡ after img x → Counts img s R d y st v → want < v.n → r ≡ into y v.n st → Moves img t N s s R d sFor i st end want r
   unfolding stmt_as gen-stmt
-  for-from e f k b u = record {
-    leads = λ p h. rw (← e, ← f) (into-first k b u (ends-into u h) _);
+  for_from e f k b u = record {
+    leads = λ p h. rw (← e, ← f) (into_first k b u (ends_into u h) _);
     ready = λ m. absurd (omega (arith, sym (ap (λ (x : Step). x.way) u) ∙ m));
   }
 
-  pub for-to : {x y z : ℕ} {v w : St} → x ≡ inside img i → y ≡ after img x → z ≡ after img y → Counts img s R d y st v → v.n ≤ want → Counts img s R d z v w → want < w.n → r ≡ into z w.n v → Moves img t N s s R d sFor i st end want r
+  pub for_to : {x y z : ℕ} {v w : St} → x ≡ inside img i → y ≡ after img x → z ≡ after img y → Counts img s R d y st v → v.n ≤ want → Counts img s R d z v w → want < w.n → r ≡ into z w.n v → Moves img t N s s R d sFor i st end want r
   unfolding stmt_as gen-stmt
-  for-to e f g k b m o u = record {
-    leads = λ p h. rw (← e, ← f, ← g) (found-later (told img want) _ k.goes b (into-first m o u (ends-into u h) _));
+  for_to e f g k b m o u = record {
+    leads = λ p h. rw (← e, ← f, ← g) (found_later (told img want) _ k.goes b (into_first m o u (ends_into u h) _));
     ready = λ m. absurd (omega (arith, sym (ap (λ (x : Step). x.way) u) ∙ m));
   }
 
-  pub for-add : {x y z : ℕ} {v w a n j : St} → x ≡ inside img i → y ≡ after img x → z ≡ after img y → Counts img s R d y st v → v.n ≤ want → Counts img s R d z v w → w.n ≤ want → Takes R w a i → Keeps a n → want < n.n → r ≡ owned i j
+  pub for_add : {x y z : ℕ} {v w a n j : St} → x ≡ inside img i → y ≡ after img x → z ≡ after img y → Counts img s R d y st v → v.n ≤ want → Counts img s R d z v w → w.n ≤ want → Takes R w a i → Keeps a n → want < n.n → r ≡ owned i j
       → Moves img t N s s R d sFor i st end want r
   unfolding stmt_as gen-stmt spot_of
-  for-add {x} {y} {z} {v} e f g k b m o j p h u = record {
-    leads = λ y q. is_found (stays u q) (rw (← e, ← f, ← g) (found-later (told img want) _ k.goes b (found-later (told img want) _ m.goes o
-        (fresh-own (told img want) _ (λ k. add i k (v.reg % 256) 0) _ (takes_fresh (contract_at img) _ j p) (λ k. refl) h))));
+  for_add {x} {y} {z} {v} e f g k b m o j p h u = record {
+    leads = λ y q. is_found (stays u q) (rw (← e, ← f, ← g) (found_later (told img want) _ k.goes b (found_later (told img want) _ m.goes o
+        (fresh_own (told img want) _ (λ k. add i k (v.reg % 256) 0) _ (takes_fresh (contract_at img) _ j p) (λ k. refl) h))));
     ready = λ m. absurd (omega (arith, sym (ap (λ (x : Step). x.way) u) ∙ m));
   }
 
-  pub for-lt : {x y z q : ℕ} {v w a n c l j : St} → Heading img s R d i x y z q st v w a n c l → v.n ≤ want → w.n ≤ want → n.n ≤ want → want < l.n → r ≡ owned i j → Moves img t N s s R d sFor i st end want r
+  pub for_lt : {x y z q : ℕ} {v w a n c l j : St} → Heading img s R d i x y z q st v w a n c l → v.n ≤ want → w.n ≤ want → n.n ≤ want → want < l.n → r ≡ owned i j → Moves img t N s s R d sFor i st end want r
   unfolding spot_of
-  for-lt H b e f h u = record {
-    leads = λ p g. is_found (stays u g) (in_turns H b e f (loop-cond (told img want) i _ _ (goes-less H) h (found_own (own-asks _ (λ c. own-says (each_more _ _ refl each_none) (λ u. own-done _))))));
+  for_lt H b e f h u = record {
+    leads = λ p g. is_found (stays u g) (in_turns H b e f (loop_cond (told img want) i _ _ (goes_less H) h (found_own (own_asks _ (λ c. own_says (each_more _ _ refl each_none) (λ u. own_done _))))));
     ready = λ m. absurd (omega (arith, sym (ap (λ (x : Step). x.way) u) ∙ m));
   }
 
@@ -409,11 +409,11 @@ pub for_loop : {img t N s s' : List ℕ} {R : Rules} {d want end i x y z q : ℕ
     → Binds img x a.reg s s' → length s' ≡ length s → v.n ≤ want → w.n ≤ want → n.n ≤ want → l.n ≤ want → Loops i q n.next 3 l end want r → Moves img t N s s' R d sFor i st end want r
 unfolding spot_of landing vars
 for_loop {img} {t} {N} {s} {s'} {R} {d} {want} {end} {i} {x} {y} {z} {q} H f g m b e h k (jnz j u o p y' r') = record {
-  leads = λ a h'. is_found (leaps r' h') (in_turns H b e h (loop-jnz (told img want) i _ _ (goes-less H) o.reserved p.reserved k y' (λ g' w' n'. ap (ahead i) (omega (arith, w', n')))));
+  leads = λ a h'. is_found (leaps r' h') (in_turns H b e h (loop-jnz (told img want) i _ _ (goes_less H) o.reserved p.reserved k y' (λ g' w' n'. ap (ahead i) (omega (arith, w', n')))));
   ready = λ m. absurd (omega (arith, sym (ap (λ (x : Step). x.way) r') ∙ m));
 }
 for_loop {img} {t} {N} {s} {s'} {R} {d} {want} {end} {i} H f g m b e h k (jmp j u o p y' z' r') = record {
-  leads = λ a h'. is_found (leaps r' h') (in_turns H b e h (loop-jmp (told img want) i _ _ (goes-less H) o.reserved p.reserved y' z' (λ n' w'. ap (ahead i) w')));
+  leads = λ a h'. is_found (leaps r' h') (in_turns H b e h (loop-jmp (told img want) i _ _ (goes_less H) o.reserved p.reserved y' z' (λ n' w'. ap (ahead i) w')));
   ready = λ m. absurd (omega (arith, sym (ap (λ (x : Step). x.way) r') ∙ m));
 }
 for_loop {img} {t} {N} {s} {s'} {R} {d} {want} {end} {i} {x} {y} {z} {q} {st} {v} {w} {a} {n} {c} {l} {r} H f g m b e h k (back j u o p y' z' r') = record {
@@ -423,13 +423,13 @@ for_loop {img} {t} {N} {s} {s'} {R} {d} {want} {end} {i} {x} {y} {z} {q} {st} {v
   where
     -- the jump back, or one of the two words before it
     go : (y : Bool) → leb end (want + 1) ≡ y → Found (told img want) (turns H) (tally n) end want (plain i)
-    go true y = loop-back (told img want) i _ _ (goes-less H) o.reserved p.reserved y' (leb-true _ _ y) (λ n'. refl)
-    go false y = loop-in (told img want) i _ _ (goes-less H) o.reserved p.reserved y' (leb-false _ _ y) (found_back (told img want) (inner H) (step-on H) 2 (stepped H) (omega (arith, leb-true end (want + 3) z', leb-false end (want + 1) y)) (mine H want))
+    go true y = loop-back (told img want) i _ _ (goes_less H) o.reserved p.reserved y' (leb-true _ _ y) (λ n'. refl)
+    go false y = loop-in (told img want) i _ _ (goes_less H) o.reserved p.reserved y' (leb-false _ _ y) (found_back (told img want) (inner H) (step_on H) 2 (stepped H) (omega (arith, leb-true end (want + 3) z', leb-false end (want + 1) y)) (mine H want))
 for_loop {img} {t} {N} {s} {s'} {R} {d} {want} {end} {i} {x} {y} {z} {q} {st} {v} {w} {a} {n} {c} {l} {r} H f g m b e h k (body j u o p y' z' r') = record {
   leads = λ a' h'.
       let next : u.next ≡ suc (a.reg % 256) = p.next ∙ H.keeps.next ∙ H.takes.next in
       let last : end - 1 - 2 ≡ end - 3 = omega arith in
-      in_turns H b e h (loop-in (told img want) i _ _ (goes-less H) o.reserved p.reserved y' (omega (arith, leb-false end (want + 3) z'))
-      (found_front (told img want) (inner H) (step-on H) 2 (stepped H) (omega (arith, leb-false end (want + 3) z')) (rw (last, ← g.scope, ← next) (enters r' h').found)));
-  ready = λ _. subst (λ (x : Step). Ready img t N s' (vars-stmts (body_at (stmt_at_lem d img) img x.place))) (sym r') (behind_one (rw (for-is H) at f) g.frame m);
+      in_turns H b e h (loop-in (told img want) i _ _ (goes_less H) o.reserved p.reserved y' (omega (arith, leb-false end (want + 3) z'))
+      (found_front (told img want) (inner H) (step_on H) 2 (stepped H) (omega (arith, leb-false end (want + 3) z')) (rw (last, ← g.scope, ← next) (enters r' h').found)));
+  ready = λ _. subst (λ (x : Step). Ready img t N s' (vars-stmts (body_at (stmt_at_lem d img) img x.place))) (sym r') (behind_one (rw (for_is H) at f) g.frame m);
 }

@@ -1,7 +1,7 @@
 -- Blocks behind the words that jump over them.
 --     found_last                  nothing follows
---     behind-own, behind-in       If: the jump; the block behind it
---     loop-cond, loop-jnz, loop-jmp, loop-back, loop-in       While and For: the condition, the two jumps behind it, the jump back, the block
+--     behind_own, behind_in       If: the jump; the block behind it
+--     loop_cond, loop-jnz, loop-jmp, loop-back, loop-in       While and For: the condition, the two jumps behind it, the jump back, the block
 -- Assumes nothing.
 use Rattle.std.specs.Prelude.{◌≡◌, refl}
 use Rattle.std.proofs.Common.{sym, ◌∙◌, subst, arith, length-append}
@@ -43,9 +43,9 @@ behind_is g (ok x) o e = record { out = x; is = refl; words = sym (ap words_of e
 behind_is g (bad q) o e = absurd (subst IsOk (sym e) tt)
 
 module _ {A S : Type 0} (f : Open → S) {s j : Tally} {end want : ℕ} {a : S} (w : ℕ → Open) (m : Res (Out A)) (k : Reserved s j) where
-  pub behind-own : want < j.n → ((o : Out A) → m ≡ ok o → end ≡ s.n + suc (length o.words) → want ≡ s.n → a ≡ f (w (length o.words))) → Found f (behind (λ ws. w (length ws) ∷ ws) m) s end want a
+  pub behind_own : want < j.n → ((o : Out A) → m ≡ ok o → end ≡ s.n + suc (length o.words) → want ≡ s.n → a ≡ f (w (length o.words))) → Found f (behind (λ ws. w (length ws) ∷ ws) m) s end want a
   unfolding nth
-  behind-own l h = record {
+  behind_own l h = record {
     is = λ fine o e z low le x q.
         let b = behind_is (λ ws. w (length ws) ∷ ws) m o e in
         let i = ap length b.words in
@@ -56,9 +56,9 @@ module _ {A S : Type 0} (f : Open → S) {s j : Tally} {end want : ℕ} {a : S} 
         ∙ ap f (some_same (ap (λ (y : ℕ). nth y (w (length b.out.words) ∷ b.out.words)) (sym n0) ∙ ap (λ (ws : List Open). nth (want - s.n) ws) (sym b.words) ∙ q));
   }
 
-  pub behind-in : j.n ≤ want → Found f m j end want a → Found f (behind (λ ws. w (length ws) ∷ ws) m) s end want a
+  pub behind_in : j.n ≤ want → Found f m j end want a → Found f (behind (λ ws. w (length ws) ∷ ws) m) s end want a
   unfolding nth
-  behind-in l h = record {
+  behind_in l h = record {
     is = λ fine o e z low le x q.
         let b = behind_is (λ ws. w (length ws) ∷ ws) m o e in
         let i = ap length b.words in
@@ -97,41 +97,41 @@ module _ (p r : ℕ) (c b : List Open) where
   abbrev back : Open
   back = emit p op.Jmp 0 0 0 (Imm.neg (length c + 2 + length b))
 
-  nth-cond : (i : ℕ) → i < length c → nth i (loops p r c b) ≡ nth i c
+  nth_cond : (i : ℕ) → i < length c → nth i (loops p r c b) ≡ nth i c
   unfolding loops
-  nth-cond i h = nth_first c _ i h
+  nth_cond i h = nth_first c _ i h
 
-  nth-jnz : nth (length c + 0) (loops p r c b) ≡ some (jump p op.Jnz r (Imm.pos 2))
+  nth_jnz : nth (length c + 0) (loops p r c b) ≡ some (jump p op.Jnz r (Imm.pos 2))
   unfolding loops nth
-  nth-jnz = nth_later c _ 0
+  nth_jnz = nth_later c _ 0
 
-  nth-jmp : nth (length c + 1) (loops p r c b) ≡ some (jump p op.Jmp 0 (Imm.pos (length b + 2)))
+  nth_jmp : nth (length c + 1) (loops p r c b) ≡ some (jump p op.Jmp 0 (Imm.pos (length b + 2)))
   unfolding loops nth
-  nth-jmp = nth_later c _ 1
+  nth_jmp = nth_later c _ 1
 
-  nth-block : (k : ℕ) → k < length b → nth (length c + suc (suc k)) (loops p r c b) ≡ nth k b
+  nth_block : (k : ℕ) → k < length b → nth (length c + suc (suc k)) (loops p r c b) ≡ nth k b
   unfolding loops nth
-  nth-block k h = nth_later c _ (suc (suc k)) ∙ nth_first b _ k h
+  nth_block k h = nth_later c _ (suc (suc k)) ∙ nth_first b _ k h
 
-  nth-back : nth (length c + suc (suc (length b + 0))) (loops p r c b) ≡ some back
+  nth_back : nth (length c + suc (suc (length b + 0))) (loops p r c b) ≡ some back
   unfolding loops nth
-  nth-back = nth_later c _ (suc (suc (length b + 0))) ∙ nth_later b _ 0
+  nth_back = nth_later c _ (suc (suc (length b + 0))) ∙ nth_later b _ 0
 
 module _ {S : Type 0} (f : Open → S) {s v : Tally} {x : AtReg} {end want : ℕ} {a : S} (p : ℕ) (g : Res (Out AtReg)) (body : AtReg → Res (Out Here)) (c : Goes s v x g) where
-  pub loop-cond : want < v.n → Found f g s v.n want a → Found f (looping p g body) s end want a
-  loop-cond l h = record {
+  pub loop_cond : want < v.n → Found f g s v.n want a → Found f (looping p g body) s end want a
+  loop_cond l h = record {
     is = λ fine o e z low le w q.
         let t = turn p g body o e in
         let i = t.long in
         let n = c.on fine t.cond t.first (omega (arith, low, z, i)) in
         h.is fine t.cond t.first n.2 (omega (arith, low, z, i, n.2)) le w
-        (sym (nth-cond p t.cond.val.reg t.cond.words t.block.words (want - s.n) (omega (arith, n.2, l, le))) ∙ ap (λ (ws : List Open). nth (want - s.n) ws) (sym t.words) ∙ q);
+        (sym (nth_cond p t.cond.val.reg t.cond.words t.block.words (want - s.n) (omega (arith, n.2, l, le))) ∙ ap (λ (ws : List Open). nth (want - s.n) ws) (sym t.words) ∙ q);
   }
 
   -- one word of the loop itself
-  loop-word : ((t : Out AtReg) (b : Out Here) (r : ℕ) → v.n ≡ s.n + length t.words → end ≡ v.n + 3 + length b.words → end < 4294967295
+  loop_word : ((t : Out AtReg) (b : Out Here) (r : ℕ) → v.n ≡ s.n + length t.words → end ≡ v.n + 3 + length b.words → end < 4294967295
       → (w : Open) → nth (want - s.n) (loops p r t.words b.words) ≡ some w → a ≡ f w) → Found f (looping p g body) s end want a
-  loop-word h = record {
+  loop_word h = record {
     is = λ fine o e z low le w q.
         let t = turn p g body o e in
         let i = t.long in
@@ -141,29 +141,29 @@ module _ {S : Type 0} (f : Open → S) {s v : Tally} {x : AtReg} {end want : ℕ
 
   module _ {j d : Tally} (k : Reserved v j) (m : Reserved j d) where
     pub loop-jnz : v.n ≤ want → want < j.n → ((r : ℕ) → want ≡ v.n → d.n ≡ v.n + 2 → a ≡ f (jump p op.Jnz r (Imm.pos 2))) → Found f (looping p g body) s end want a
-    loop-jnz l y h = loop-word (λ t b r n z low w q.
+    loop-jnz l y h = loop_word (λ t b r n z low w q.
         let cj = k.count (k.low (omega (arith, low, z))) in
         let cd = m.count (m.low (omega (arith, low, z, cj))) in
         let i : length t.words + 0 ≡ want - s.n = omega (arith, n, l, y, cj) in
         h r (omega (arith, l, y, cj)) (omega (arith, cj, cd))
-        ∙ ap f (some_same (sym (nth-jnz p r t.words b.words) ∙ ap (λ (e : ℕ). nth e (loops p r t.words b.words)) i ∙ q)))
+        ∙ ap f (some_same (sym (nth_jnz p r t.words b.words) ∙ ap (λ (e : ℕ). nth e (loops p r t.words b.words)) i ∙ q)))
 
     pub loop-jmp : j.n ≤ want → want < d.n → ((n : ℕ) → end ≡ want + n → a ≡ f (jump p op.Jmp 0 (Imm.pos n))) → Found f (looping p g body) s end want a
-    loop-jmp l y h = loop-word (λ t b r n z low w q.
+    loop-jmp l y h = loop_word (λ t b r n z low w q.
         let cj = k.count (k.low (omega (arith, low, z))) in
         let cd = m.count (m.low (omega (arith, low, z, cj))) in
         let i : length t.words + 1 ≡ want - s.n = omega (arith, n, l, y, cj, cd) in
         h (length b.words + 2) (omega (arith, z, l, y, cj, cd))
-        ∙ ap f (some_same (sym (nth-jmp p r t.words b.words) ∙ ap (λ (e : ℕ). nth e (loops p r t.words b.words)) i ∙ q)))
+        ∙ ap f (some_same (sym (nth_jmp p r t.words b.words) ∙ ap (λ (e : ℕ). nth e (loops p r t.words b.words)) i ∙ q)))
 
     pub loop-back : d.n ≤ want → end ≤ want + 1 → ((n : ℕ) → a ≡ f (emit p op.Jmp 0 0 0 (Imm.neg n))) → Found f (looping p g body) s end want a
-    loop-back l y h = loop-word (λ t b r n z low w q.
+    loop-back l y h = loop_word (λ t b r n z low w q.
         let x = nth_low (loops p r t.words b.words) (want - s.n) w q in
         let cj = k.count (k.low (omega (arith, low, z))) in
         let cd = m.count (m.low (omega (arith, low, z, cj))) in
         let i : length t.words + suc (suc (length b.words + 0)) ≡ want - s.n = omega (arith, n, l, y, z, cj, cd, x, length_loops p r t.words b.words) in
         h (length t.words + 2 + length b.words)
-        ∙ ap f (some_same (sym (nth-back p r t.words b.words) ∙ ap (λ (e : ℕ). nth e (loops p r t.words b.words)) i ∙ q)))
+        ∙ ap f (some_same (sym (nth_back p r t.words b.words) ∙ ap (λ (e : ℕ). nth e (loops p r t.words b.words)) i ∙ q)))
 
     pub loop-in : d.n ≤ want → want + 1 < end → Found f (body x) d (end - 1) want a → Found f (looping p g body) s end want a
     loop-in l y h = record {
@@ -175,6 +175,6 @@ module _ {S : Type 0} (f : Open → S) {s v : Tally} {x : AtReg} {end want : ℕ
           let cd = m.count (m.low (omega (arith, low, z, i, n.2, cj))) in
           let u : length t.cond.words + suc (suc (want - d.n)) ≡ want - s.n = omega (arith, n.2, cj, cd, l) in
           h.is (m.err ∙ k.err ∙ n.0) t.block (ap body n.1 ∙ t.second) (omega (arith, z, i, n.2, cj, cd)) (omega (arith, low)) l w
-          (sym (nth-block p t.cond.val.reg t.cond.words t.block.words (want - d.n) (omega (arith, z, i, n.2, cj, cd, l, y)))
+          (sym (nth_block p t.cond.val.reg t.cond.words t.block.words (want - d.n) (omega (arith, z, i, n.2, cj, cd, l, y)))
           ∙ ap (λ (e : ℕ). nth e (loops p t.cond.val.reg t.cond.words t.block.words)) u ∙ ap (λ (ws : List Open). nth (want - s.n) ws) (sym t.words) ∙ q);
     }

@@ -3,6 +3,8 @@
 //
 // A statement is counted by generating it once more (crate stmt); what stands behind everything else is not, since the end is known. The scope is
 // lent: where the walk goes back to the start of a part, the count of names is put back.
+#![tactic(auto)]
+
 ghost use Rattle.std.specs.Prelude.{◌≡◌, suc, ◌+◌, ◌<◌, leb, length};
 ghost use Rattle.rules.specs.Read.{stmt_at_lem, body_at, else_at, sMapping, sIf, sWhile, sFor, sReturn, sEmit};
 ghost use Rattle.bounds.specs.Sizes.{vars, vars-stmts};

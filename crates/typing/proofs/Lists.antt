@@ -18,7 +18,7 @@ use Rattle.rules.specs.Read.{name_in, second, expr_at, exprs_from, inits_from}
 use Rattle.lookup.specs.Answers.{noted}
 use Rattle.lookup.specs.Results.{then_ok, then_bad}
 use Rattle.typing.specs.Arguments.{Sum, sum, sum_up, sum_args, behind, one_init}
-use Rattle.typing.proofs.Trees.{at_place, exprs-more, inits-more}
+use Rattle.typing.proofs.Trees.{at_place, exprs_more, inits_more}
 
 -- the parameters that are due after i
 pub nth_drop : {A : Type 0} (i : ℕ) (l : List A) → nth 0 (drop i l) ≡ nth i l
@@ -69,8 +69,8 @@ joined (bad r) f g = refl
 
 module _ (C : Contract) (d : ℕ) (img : List ℕ) (Γ : Env) where
   -- before the first argument
-  pub args-start : (ps : List Typ) (k p e : ℕ) → sum_args C ps 0 (exprs_from k (expr_at d img) img p e) Γ ≡ (sum_args C ps 0 (exprs_from (k - 0) (expr_at d img) img p e) Γ >>= behind none)
-  args-start ps k p e = let z : k - 0 ≡ k = omega arith in rw z (behind_none _)
+  pub args_start : (ps : List Typ) (k p e : ℕ) → sum_args C ps 0 (exprs_from k (expr_at d img) img p e) Γ ≡ (sum_args C ps 0 (exprs_from (k - 0) (expr_at d img) img p e) Γ >>= behind none)
+  args_start ps k p e = let z : k - 0 ≡ k = omega arith in rw z (behind_none _)
 
   module _ (ps : List Typ) (i : ℕ) (m : Option Misfit) where
     -- no argument more
@@ -84,14 +84,14 @@ module _ (C : Contract) (d : ℕ) (img : List ℕ) (Γ : Env) where
     unfolding exprs ◌>>=◌
     args-next k p e {t} m' h l q w =
         let z : k - (i + 1) ≡ k - i - 1 = omega arith in
-        rw (z, w, exprs-more (expr_at d img) img (k - i) p e (λ y. omega arith) l, ← q, at_place d img p)
+        rw (z, w, exprs_more (expr_at d img) img (k - i) p e (λ y. omega arith) l, ← q, at_place d img p)
         (one_more t (exprs C (exprs_from (k - i - 1) (expr_at d img) img (after img p) e) Γ) ps i p m)
 
     -- one that is refused
     pub args-refused : (k p e : ℕ) {r : Refusal} → i < k → p < e → bad r ≡ expr C (expr_at d img p) Γ
         → bad r ≡ (sum_args C ps i (exprs_from (k - i) (expr_at d img) img p e) Γ >>= behind m)
     unfolding exprs ◌>>=◌
-    args-refused k p e h l q = rw (exprs-more (expr_at d img) img (k - i) p e (λ y. omega arith) l, ← q)
+    args-refused k p e h l q = rw (exprs_more (expr_at d img) img (k - i) p e (λ y. omega arith) l, ← q)
 
   module _ (s : Struct) (k p e : ℕ) (h : k ≡ 0 → ⊥) (l : p < e) where
     first : Res (Unit {0})
@@ -102,7 +102,7 @@ module _ (C : Contract) (d : ℕ) (img : List ℕ) (Γ : Env) where
 
     inits-one : inits C s (inits_from k (expr_at d img) img p e) Γ ≡ (first >>= λ u. rest)
     unfolding inits first rest one_init
-    inits-one = rw (inits-more (expr_at d img) img k p e h l) (sym (joined (expr C (expr_at d img (second img p)) Γ) _ _))
+    inits-one = rw (inits_more (expr_at d img) img k p e h l) (sym (joined (expr C (expr_at d img (second img p)) Γ) _ _))
 
     pub inits-next : ok tt ≡ one_init C s p (name_in img p) (expr_at d img (second img p)) Γ
         → inits C s (inits_from k (expr_at d img) img p e) Γ ≡ inits C s (inits_from (k - 1) (expr_at d img) img (after img p) e) Γ

@@ -42,32 +42,32 @@ kind_other k a b c d e f g h = simp (ne_eqb _ _ a, ne_eqb _ _ b, ne_eqb _ _ c, n
 
 -- Lists: none is left, or one more
 module _ (f : ℕ → Expr) (img : List ℕ) where
-  pub exprs-zero : (k p e : ℕ) → k ≡ 0 → exprs_from k f img p e ≡ Exprs.none
+  pub exprs_zero : (k p e : ℕ) → k ≡ 0 → exprs_from k f img p e ≡ Exprs.none
   unfolding exprs_from
-  exprs-zero zero p e h = refl
-  exprs-zero (suc k) p e h = absurd (omega arith)
+  exprs_zero zero p e h = refl
+  exprs_zero (suc k) p e h = absurd (omega arith)
 
-  pub exprs-end : (k p e : ℕ) → e ≤ p → exprs_from k f img p e ≡ Exprs.none
+  pub exprs_end : (k p e : ℕ) → e ≤ p → exprs_from k f img p e ≡ Exprs.none
   unfolding exprs_from
-  exprs-end zero p e h = refl
-  exprs-end (suc k) p e h = simp (le-ltb _ _ h)
+  exprs_end zero p e h = refl
+  exprs_end (suc k) p e h = simp (le-ltb _ _ h)
 
-  pub exprs-more : (k p e : ℕ) → (k ≡ 0 → ⊥) → p < e → exprs_from k f img p e ≡ Exprs.more (f p) (exprs_from (k - 1) f img (after img p) e)
+  pub exprs_more : (k p e : ℕ) → (k ≡ 0 → ⊥) → p < e → exprs_from k f img p e ≡ Exprs.more (f p) (exprs_from (k - 1) f img (after img p) e)
   unfolding exprs_from
-  exprs-more zero p e h l = absurd (h refl)
-  exprs-more (suc k) p e h l = simp (lt-ltb _ _ l, sub-one)
+  exprs_more zero p e h l = absurd (h refl)
+  exprs_more (suc k) p e h l = simp (lt-ltb _ _ l, sub-one)
 
-  pub inits-zero : (k p e : ℕ) → k ≡ 0 → inits_from k f img p e ≡ Inits.no-init
+  pub inits_zero : (k p e : ℕ) → k ≡ 0 → inits_from k f img p e ≡ Inits.no-init
   unfolding inits_from
-  inits-zero zero p e h = refl
-  inits-zero (suc k) p e h = absurd (omega arith)
+  inits_zero zero p e h = refl
+  inits_zero (suc k) p e h = absurd (omega arith)
 
-  pub inits-end : (k p e : ℕ) → e ≤ p → inits_from k f img p e ≡ Inits.no-init
+  pub inits_end : (k p e : ℕ) → e ≤ p → inits_from k f img p e ≡ Inits.no-init
   unfolding inits_from
-  inits-end zero p e h = refl
-  inits-end (suc k) p e h = simp (le-ltb _ _ h)
+  inits_end zero p e h = refl
+  inits_end (suc k) p e h = simp (le-ltb _ _ h)
 
-  pub inits-more : (k p e : ℕ) → (k ≡ 0 → ⊥) → p < e → inits_from k f img p e ≡ Inits.init p (name_in img p) (f (second img p)) (inits_from (k - 1) f img (after img p) e)
+  pub inits_more : (k p e : ℕ) → (k ≡ 0 → ⊥) → p < e → inits_from k f img p e ≡ Inits.init p (name_in img p) (f (second img p)) (inits_from (k - 1) f img (after img p) e)
   unfolding inits_from
-  inits-more zero p e h l = absurd (h refl)
-  inits-more (suc k) p e h l = simp (lt-ltb _ _ l, sub-one)
+  inits_more zero p e h l = absurd (h refl)
+  inits_more (suc k) p e h l = simp (lt-ltb _ _ l, sub-one)

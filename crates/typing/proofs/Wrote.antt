@@ -16,7 +16,7 @@ use Rattle.before.specs.Meant.{bad_ok}
 use Rattle.notes.specs.Notes.{spot_in_lem, spot_of, marked, written, Wrote}
 use Rattle.notes.specs.Left.{written_append}
 use Rattle.notes.specs.Wrote.{in_turn}
-use Rattle.typing.proofs.Trees.{exprs-more, inits-more}
+use Rattle.typing.proofs.Trees.{exprs_more, inits_more}
 
 -- the note of one access, if it is accepted
 one_access : (C : Contract) (p : ℕ) (x : Name) (t : Typ) (N₁ : List ℕ) {N₂ : List ℕ} → N₂ ≡ marked N₁ p (spot_in_lem (declared C t) x) → (r : Res Typ) (u : Typ) → r ≡ ok u
@@ -43,17 +43,17 @@ args_first C N Γ f img k p e = let z : k - 0 ≡ k = omega arith in rw z refl
 
 -- Arguments and Inits, one at a time.
 module _ (C : Contract) (d : ℕ) (img : List ℕ) (Γ : Env) (N : List ℕ) {N₁ : List ℕ} where
-  pub args-written : (k i p e : ℕ) → i < k → p < e → N₁ ≡ written C N (ofExpr C (expr_at d img p) Γ)
+  pub args_written : (k i p e : ℕ) → i < k → p < e → N₁ ≡ written C N (ofExpr C (expr_at d img p) Γ)
       → written C N (ofExprs C (exprs_from (k - i) (expr_at d img) img p e) Γ) ≡ written C N₁ (ofExprs C (exprs_from (k - (i + 1)) (expr_at d img) img (after img p) e) Γ)
   unfolding ofExprs
-  args-written k i p e h l w =
+  args_written k i p e h l w =
       let z : k - (i + 1) ≡ k - i - 1 = omega arith in
-      rw (z, exprs-more (expr_at d img) img (k - i) p e (λ y. omega arith) l, w) (written_append C N _ _)
+      rw (z, exprs_more (expr_at d img) img (k - i) p e (λ y. omega arith) l, w) (written_append C N _ _)
 
-  pub inits-written : (k p e : ℕ) → (k ≡ 0 → ⊥) → p < e → N₁ ≡ written C N (ofExpr C (expr_at d img (second img p)) Γ)
+  pub inits_written : (k p e : ℕ) → (k ≡ 0 → ⊥) → p < e → N₁ ≡ written C N (ofExpr C (expr_at d img (second img p)) Γ)
       → written C N (ofInits C (inits_from k (expr_at d img) img p e) Γ) ≡ written C N₁ (ofInits C (inits_from (k - 1) (expr_at d img) img (after img p) e) Γ)
   unfolding ofInits
-  inits-written k p e h l w = rw (inits-more (expr_at d img) img k p e h l, w) (written_append C N _ _)
+  inits_written k p e h l w = rw (inits_more (expr_at d img) img k p e h l, w) (written_append C N _ _)
 
 -- at the end of a list
 pub args_all : (C : Contract) (N : List ℕ) (Γ : Env) (es : Exprs) → es ≡ Exprs.none → written C N (ofExprs C es Γ) ≡ N

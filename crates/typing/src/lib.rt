@@ -1,5 +1,7 @@
 // 001: sema.rs, analyze_expr, over the image. A name is the place of its record; the names in scope stand in a lent array. What it finds of
 // each access is left in lent notes (02: P2).
+#![tactic(auto)]
+
 ghost use Rattle.std.specs.Prelude.{◌≡◌};
 ghost use Rattle.rules.specs.Read.{expr_at, kMapping, kAccess, kLiteral, kBinary, kCall, name_in, second, struct_at, contract_at};
 ghost use Rattle.rules.specs.Analyse.{inits};
@@ -14,7 +16,7 @@ use lookup::{Checked, Due, Fault, Misfit, Ty, Typed};
 use tables::Found;
 
 // How many arguments there are, and the first misfit.
-#[derive(Drop)]
+#[derive(Clone, Copy)]
 pub enum Args {
     Done(usize, Misfit),
     Refused(Fault),

@@ -1,4 +1,6 @@
 // Reads an image on standard input, to its end or one byte past the largest image, and writes its refusal and place.
+#![tactic(auto)]
+
 use libc::{STDIN_FILENO, STDOUT_FILENO};
 use rules::Seen;
 

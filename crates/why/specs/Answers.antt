@@ -1,8 +1,8 @@
 -- How the walk's spot becomes the answer.
---     entry-own, exit_own, inside      a function: its first words, its last five, its statements
+--     entry_own, exit_own, inside      a function: its first words, its last five, its statements
 --     opened_main, opened_plain, opened_in      a word of the program
---     why-refused, why-past, why-word           the answer behind analysis; few_words, some-function: of what was generated
---     whole-refused, whole-generated            the whole answer
+--     why_refused, why_past, why_word           the answer behind analysis; few_words, some-function: of what was generated
+--     whole_refused, whole_generated            the whole answer
 -- Assumes nothing.
 use Rattle.std.specs.Prelude.{◌≡◌, Bool, leb, ltb, take}
 use Rattle.std.proofs.Math.Path.{refl, sym, ap}
@@ -27,7 +27,7 @@ use Rattle.rules.specs.Builtins.{main}
 use Rattle.rules.specs.Machine.{Entry}
 use Rattle.rules.specs.Emit as target
 use Rattle.rules.specs.Emit.{Open, word, calls, bind, pop, push, load, ret}
-use Rattle.rules.specs.Generate.{alloc-reg, function}
+use Rattle.rules.specs.Generate.{alloc_reg_lem, function}
 use Rattle.rules.specs.Link.{Built, Program, functions, link, opening, generate}
 use Rattle.rules.specs.Build.{rules, judged, analysis_answer}
 use Rattle.rules.specs.Why.{mark_of, target_of, marked, marked_of, because, word_why, why_in, why_of}
@@ -41,9 +41,9 @@ use Rattle.bounds.specs.Cuts as cuts
 use Rattle.tables.specs.Listed.{functions_in}
 use Rattle.emit.specs.declared.St.{St}
 use Rattle.emit.specs.declared.Rules.{Rules}
-use Rattle.emit.specs.Steps.{Out, ◌>>=◌, say, ask, Here, gen-params, gen-stmts, gen-function}
+use Rattle.emit.specs.Steps.{Out, ◌>>=◌, say, ask, Here, gen_params, gen-stmts, gen_function_lem}
 use Rattle.emit.specs.Laws.{as_out}
-use Rattle.emit.specs.Same.{logged, function-same}
+use Rattle.emit.specs.Same.{logged, function_same}
 use Rattle.emit.specs.Sinks.{Sinks, sinks}
 use Rattle.emit.specs.Ran.{raw, or_first, Tally}
 use Rattle.emit.specs.State.{rules_of, tally, moved, Takes, Keeps}
@@ -53,15 +53,15 @@ use Rattle.codegen.specs.Does.{regs_in, Bound, finish}
 use Rattle.codegen.proofs.Pieces.{length_regs}
 use Rattle.codegen.proofs.Whole.{link_length}
 use Rattle.compiler.specs.Made.{firsts_of}
-use Rattle.compiler.proofs.Making.{no-refusal, sound_of, make-fine}
+use Rattle.compiler.proofs.Making.{no_refusal, sound_of, make_fine}
 use Rattle.compiler.specs.Stages.{Makes, made, not_made}
 use Rattle.seek.specs.declared.Spot.{Spot}
 use Rattle.seek.specs.Goes.{Goes, IsOk, ran_goes, goes_word, goes_words}
-use Rattle.seek.specs.Found.{nth_later, nth_low, some_same, Found, found_first, found-later, found_front, found_back, each_none, each_more, each_map, Own, found_own, own-say, own-done, own-then, own-asks, own-says, Long, long_done, long_says, long_asks}
+use Rattle.seek.specs.Found.{nth_later, nth_low, some_same, Found, found_first, found_later, found_front, found_back, each_none, each_more, each_map, Own, found_own, own_say, own_done, own_then, own_asks, own_says, Long, long_done, long_says, long_asks}
 use Rattle.seek.specs.Spots.{plain, called, spot_of, told, Saves}
 use Rattle.trace.specs.Moves.{Blocks}
 use Rattle.why.specs.Tells.{refusing, target_in, start, InFunction, Lies, Opened}
-use Rattle.why.specs.Parts.{linked_marked, marked_is, marked_some, part, table-length, first-is, targets}
+use Rattle.why.specs.Parts.{linked_marked, marked_is, marked_some, part, table_length, first_is, targets}
 
 -- The state before a function's first word.
 abbrev pub begin : ℕ → St
@@ -72,19 +72,19 @@ own_then_found : {A B S : Type 0} (f : Open → S) {s r : Tally} {v : A} {m : Re
 own_then_found f {s} {r} {v} {m} {end} {want} {a} k g o h = go (leb r.n want) refl
   where
     go : (b : Bool) → leb r.n want ≡ b → Found f (m >>= k) s end want a
-    go true e = found-later f k g (leb-true _ _ e) (h (leb-true _ _ e))
+    go true e = found_later f k g (leb-true _ _ e) (h (leb-true _ _ e))
     go false e = found_first f k g (leb-false _ _ e) (found_own o)
 
 own_ask : {A S : Type 0} {f : Open → S} {a : S} (m : Res A) → Own f a (ask m)
 unfolding ask
-own_ask (ok v) = own-done v
+own_ask (ok v) = own_done v
 own_ask (bad q) = record { each = λ o e. absurd (subst IsOk (sym e) tt) }
 
 -- Parameters take registers and add no word.
-own_params : {S : Type 0} {f : Open → S} {a : S} (R : target.Rules) (C : Contract) (p : ℕ) (xs : List Field) (n : ℕ) → Own f a (gen-params R C p xs n)
-unfolding gen-params
-own_params R C p [] n = own-done _
-own_params R C p (x ∷ xs) n = own-asks _ (λ r. own-then (own_params R C p xs (suc r)) (λ v. own-done _))
+own_params : {S : Type 0} {f : Open → S} {a : S} (R : target.Rules) (C : Contract) (p : ℕ) (xs : List Field) (n : ℕ) → Own f a (gen_params R C p xs n)
+unfolding gen_params
+own_params R C p [] n = own_done _
+own_params R C p (x ∷ xs) n = own_asks _ (λ r. own_then (own_params R C p xs (suc r)) (λ v. own_done _))
 
 -- A function up to its statements: a register, its Pop, the parameters, their Pops, the Push.
 pub record Enters (img : List ℕ) (R : Rules) (f first : ℕ) (a p b q u : St) (s : List ℕ) : Type 0 where
@@ -101,56 +101,56 @@ module _ {img : List ℕ} {R : Rules} {f first : ℕ} {a p b q u : St} {s : List
   abbrev body : Res (Out Here)
   body = gen-stmts (rules_of R) (contract_at img) (function_at img f).body (bind (function_at img f).params (regs_in s) []) (suc (a.reg % 256) + length (regs_in s))
 
-  ends-long : (d : Here) → Long 5 (ends d)
+  ends_long : (d : Here) → Long 5 (ends d)
   unfolding finish
-  ends-long d = long_asks _ (λ x. long_says (pop f x ∷ []) (λ u. long_asks _ (λ z. long_says (load f z 0 ∷ push f z ∷ push f x ∷ ret f ∷ []) (λ w. long_done _))))
+  ends_long d = long_asks _ (λ x. long_says (pop f x ∷ []) (λ u. long_asks _ (λ z. long_says (load f z 0 ∷ push f z ∷ push f x ∷ ret f ∷ []) (λ w. long_done _))))
 
-  ends-own : (want : ℕ) (d : Here) → Own (told img want) (plain f) (ends d)
+  ends_own : (want : ℕ) (d : Here) → Own (told img want) (plain f) (ends d)
   unfolding finish spot_of
-  ends-own want d = own-asks _ (λ x. own-says (each_more _ _ refl each_none) (λ u. own-asks _ (λ z. own-says (each_more _ _ refl (each_more _ _ refl (each_more _ _ refl (each_more _ _ refl each_none)))) (λ w. own-done _))))
+  ends_own want d = own_asks _ (λ x. own_says (each_more _ _ refl each_none) (λ u. own_asks _ (λ z. own_says (each_more _ _ refl (each_more _ _ refl (each_more _ _ refl (each_more _ _ refl each_none)))) (λ w. own_done _))))
 
   -- how far each of them goes
-  goes_first : Goes (start first) (tally a) (a.reg % 256) (ask (alloc-reg (rules_of R) (contract_at img) f 1))
+  goes_first : Goes (start first) (tally a) (a.reg % 256) (ask (alloc_reg_lem (rules_of R) (contract_at img) f 1))
   goes_first = ran_goes (raw (contract_at img)) (E.takes.ran (contract_at img) (sinks [] []))
 
-  goes-params : Goes (tally p) (tally b) (regs_in s) (gen-params (rules_of R) (contract_at img) f (function_at img f).params (suc (a.reg % 256)))
-  goes-params =
+  goes_params : Goes (tally p) (tally b) (regs_in s) (gen_params (rules_of R) (contract_at img) f (function_at img f).params (suc (a.reg % 256)))
+  goes_params =
       let e : p.next ≡ suc (a.reg % 256) = E.pops.next ∙ E.takes.next in
       rw (← e) (ran_goes (raw (contract_at img)) (E.bound.ran (contract_at img) (sinks [] [])))
 
-  goes-pops : Goes (tally b) (tally q) tt (say (map (pop f) (reverse (regs_in s))))
-  goes-pops = goes_words (map (pop f) (reverse (regs_in s))) (length-map (reverse (regs_in s)) (pop f) ∙ length-reverse (regs_in s) ∙ length_regs s (get_or s 0 0)) E.params.err E.params.sums
+  goes_pops : Goes (tally b) (tally q) tt (say (map (pop f) (reverse (regs_in s))))
+  goes_pops = goes_words (map (pop f) (reverse (regs_in s))) (length-map (reverse (regs_in s)) (pop f) ∙ length-reverse (regs_in s) ∙ length_regs s (get_or s 0 0)) E.params.err E.params.sums
 
   -- its first words are its own
-  pub entry-own : {want end : ℕ} → want < u.n → InFunction img R f first end want (plain f)
-  unfolding gen-function function_at spot_of
-  entry-own {want} l = record {
+  pub entry_own : {want end : ℕ} → want < u.n → InFunction img R f first end want (plain f)
+  unfolding gen_function_lem function_at spot_of
+  entry_own {want} l = record {
     found = own_then_found (told img want) _ goes_first (own_ask _) (λ _.
-        own_then_found (told img want) _ (goes_word (pop f (a.reg % 256)) E.pops.reserved) (own-say (each_more _ _ refl each_none)) (λ _.
-        own_then_found (told img want) _ goes-params (own_params (rules_of R) (contract_at img) f (function_at img f).params _) (λ _.
-        own_then_found (told img want) _ goes-pops (own-say (each_map (pop f) (reverse (regs_in s)) (λ x. refl))) (λ _.
-        own_then_found (told img want) _ (goes_word (push f (a.reg % 256)) E.pushes.reserved) (own-say (each_more _ _ refl each_none)) (λ m. absurd (omega (arith, l, m)))))));
+        own_then_found (told img want) _ (goes_word (pop f (a.reg % 256)) E.pops.reserved) (own_say (each_more _ _ refl each_none)) (λ _.
+        own_then_found (told img want) _ goes_params (own_params (rules_of R) (contract_at img) f (function_at img f).params _) (λ _.
+        own_then_found (told img want) _ goes_pops (own_say (each_map (pop f) (reverse (regs_in s)) (λ x. refl))) (λ _.
+        own_then_found (told img want) _ (goes_word (push f (a.reg % 256)) E.pushes.reserved) (own_say (each_more _ _ refl each_none)) (λ m. absurd (omega (arith, l, m)))))));
   }
 
   -- what is found behind them is found in the function
   entered : {want end : ℕ} {w : Spot} → u.n ≤ want → Found (told img want) (body >>= ends) (tally u) end want w → InFunction img R f first end want w
-  unfolding gen-function function_at finish
+  unfolding gen_function_lem function_at finish
   entered {want} l h =
       let y1 = E.pushes.reserved.grows in
       let y2 = E.params.sums.grows in
       let y3 = (E.bound.ran (contract_at img) (sinks [] [])).grows in
       let y4 = E.pops.reserved.grows in
       record {
-        found = found-later (told img want) _ goes_first (omega (arith, l, y1, y2, y3, y4))
-            (found-later (told img want) _ (goes_word (pop f (a.reg % 256)) E.pops.reserved) (omega (arith, l, y1, y2, y3))
-            (found-later (told img want) _ goes-params (omega (arith, l, y1, y2))
-            (found-later (told img want) _ goes-pops (omega (arith, l, y1))
-            (found-later (told img want) _ (goes_word (push f (a.reg % 256)) E.pushes.reserved) l h))));
+        found = found_later (told img want) _ goes_first (omega (arith, l, y1, y2, y3, y4))
+            (found_later (told img want) _ (goes_word (pop f (a.reg % 256)) E.pops.reserved) (omega (arith, l, y1, y2, y3))
+            (found_later (told img want) _ goes_params (omega (arith, l, y1, y2))
+            (found_later (told img want) _ goes_pops (omega (arith, l, y1))
+            (found_later (told img want) _ (goes_word (push f (a.reg % 256)) E.pushes.reserved) l h))));
       }
 
   -- its last five are its own
   pub exit_own : {want end : ℕ} → u.n ≤ want → leb end (want + 5) ≡ true → InFunction img R f first end want (plain f)
-  exit_own {want} {end} l e = entered l (found_back (told img want) body ends 5 ends-long (leb-true end (want + 5) e) (ends-own want))
+  exit_own {want} {end} l e = entered l (found_back (told img want) body ends 5 ends_long (leb-true end (want + 5) e) (ends_own want))
 
   -- between them stand its statements
   pub inside : {want end l : ℕ} {w : Spot} {x : St} → u.n ≤ want → leb end (want + 5) ≡ false → l ≡ fifth img f → x ≡ moved u 0 (a.reg % 256 + 1 + get_or s 0 0) → Blocks img s R 64 l x (end - 5) want w → InFunction img R f first end want w
@@ -158,7 +158,7 @@ module _ {img : List ℕ} {R : Rules} {f first : ℕ} {a p b q u : St} {s : List
   inside {want} {end} {l} {w} {x} m e g n h =
       let c = E.bound.scope in
       let z : suc (a.reg % 256) + length (regs_in s) ≡ a.reg % 256 + 1 + get_or s 0 0 = omega (arith, length_regs s (get_or s 0 0)) in
-      entered m (found_front (told img want) body ends 5 ends-long (leb-false end (want + 5) e)
+      entered m (found_front (told img want) body ends 5 ends_long (leb-false end (want + 5) e)
       (rw (z, ← c, ← g) (subst (λ (y : St). Found (told img want) (gen-stmts (rules_of R) (contract_at img) (body_at (stmt_at_lem 64 img) img l) (scope_in img s) y.next) (tally y) (end - 5) want w) n h.found)))
 
 -- The opening, of the Contract.
@@ -209,10 +209,10 @@ opened_in {img} {R} {F} {n} {want} {k} {count} {f} {first} {end} {a} low hc one 
       let ps = functions_in img in
       let kc : k < length ps = omega (arith, L.within (omega (arith, hc, one)), hc) in
       let P = part (rules_of R) (contract_at img) img 3 ps M.rest k M.is kc in
-      let tl = table-length (rules_of R) (contract_at img) img 3 ps M.rest M.is in
+      let tl = table_length (rules_of R) (contract_at img) img 3 ps M.rest M.is in
       let T : take (length M.rest.table) F ≡ firsts_of M.rest.table = subst (λ (y : List Entry). take (length y) F ≡ firsts_of y) M.table t in
       let z = placed F M.rest.table T k (omega (arith, tl, kc)) in
-      let o = placed F M.rest.table T 0 (omega (arith, tl, one)) ∙ first-is (rules_of R) (contract_at img) img 3 ps M.rest M.is one in
+      let o = placed F M.rest.table T 0 (omega (arith, tl, one)) ∙ first_is (rules_of R) (contract_at img) img 3 ps M.rest M.is one in
       let least = least_of F k want L.least o low in
       let cl : length b.code ≡ suc (suc (suc (length M.rest.code))) = ap length M.code in
       let y = nth_low b.code want w q in
@@ -223,7 +223,7 @@ opened_in {img} {R} {F} {n} {want} {k} {count} {f} {first} {end} {a} low hc one 
       let d : want - 3 ≡ get_or (firsts_of M.rest.table) k 0 - 3 + (want - first) = omega (arith, low, least, hs, z, P.base) in
       let e3 : 3 + (want - 3) ≡ want = omega (arith, low) in
       I.found.is refl (record { val = tt; words = P.words })
-      (function-same (rules_of R) (contract_at img) (function_at img f) ∙ ap (as_out (logged (rules_of R) (contract_at img))) (ap (λ (g : ℕ). function (rules_of R) (contract_at img) (function_at img g)) hf ∙ P.is))
+      (function_same (rules_of R) (contract_at img) (function_at img f) ∙ ap (as_out (logged (rules_of R) (contract_at img))) (ap (λ (g : ℕ). function (rules_of R) (contract_at img) (function_at img g)) hf ∙ P.is))
       ends.0 (omega (arith, ends.0, few, l, cl, z, hs, P.fits)) (omega (arith, least, hs)) w
       (sym (P.inside (want - first) (omega (arith, ends.0, ends.1, least, hs))) ∙ ap (λ (i : ℕ). nth i M.rest.code) (sym d)
       ∙ sym (nth_later (opening (rules_of R)) M.rest.code (want - 3)) ∙ ap (λ (i : ℕ). nth i (opening (rules_of R) ++ M.rest.code)) e3 ∙ ap (nth want) (sym M.code) ∙ q);
@@ -252,7 +252,7 @@ count_of img = length-map (functions_in img) (function_at img)
 
 table_of : (img : List ℕ) (b : Built) → functions rules (contract_at img) 3 (contract_at img).functions ≡ ok b → length b.table ≡ length (contract_at img).functions
 unfolding contract_at
-table_of img b e = table-length rules (contract_at img) img 3 (functions_in img) b e ∙ sym (count_of img)
+table_of img b e = table_length rules (contract_at img) img 3 (functions_in img) b e ∙ sym (count_of img)
 
 -- F has the first word of each function, by its index.
 same_targets : (img F : List ℕ) (b : Built) → marked rules (contract_at img) ≡ ok b → take (length b.table) F ≡ firsts_of b.table → (x : Name)
@@ -272,11 +272,11 @@ module _ (C : Contract) (T : List Entry) (F : List ℕ) (few : length C.function
   called_at none h = refl
   called_at (some k) h = rw (lt-ltb k 256 (omega (arith, h, few))) refl
 
-  spot-why : (i : ℕ) (w : Open) → because 0 (spot_of C i w).place (target_in F (spot_of C i w)) ≡ because 0 (mark_of w) (target_of T i w)
+  spot_why : (i : ℕ) (w : Open) → because 0 (spot_of C i w).place (target_in F (spot_of C i w)) ≡ because 0 (mark_of w) (target_of T i w)
   unfolding spot_of target_in pick mark_of target_of
-  spot-why i (word p false w) = refl
-  spot-why i (word p true w) = refl
-  spot-why i (calls p f) = ap (because 0 p) (called_at (last_index (λ (g : Function). g.name) 0 f C.functions) (last_index_low (λ (g : Function). g.name) 0 f C.functions) ∙ sym (same f))
+  spot_why i (word p false w) = refl
+  spot_why i (word p true w) = refl
+  spot_why i (calls p f) = ap (because 0 p) (called_at (last_index (λ (g : Function). g.name) 0 f C.functions) (last_index_low (λ (g : Function). g.name) 0 f C.functions) ∙ sym (same f))
 
 -- What generation's answer says of the marked words.
 record Fine (C : Contract) (F : List ℕ) (a : Answer) (b : Built) : Type 0 where
@@ -287,32 +287,32 @@ record Fine (C : Contract) (F : List ℕ) (a : Answer) (b : Built) : Type 0 wher
 
 module _ {img : List ℕ} {c c' : Sinks} {a : Answer} {F t : List ℕ} (h : Makes img c a c' F t (generate rules (contract_at img))) where
   -- by cases of the marked words
-  by-marks : {P : Type 0} → ((b : Built) → Fine (contract_at img) F a b → P) → ((q : Refusal) → marked rules (contract_at img) ≡ bad q → a ≡ refused q → (a.refusal ≡ 0 → ⊥) → P) → P
+  by_marks : {P : Type 0} → ((b : Built) → Fine (contract_at img) F a b → P) → ((q : Refusal) → marked rules (contract_at img) ≡ bad q → a ≡ refused q → (a.refusal ≡ 0 → ⊥) → P) → P
   unfolding closed.◌>>=◌
-  by-marks {P} f g = go (marked rules (contract_at img)) refl (subst (λ (m : Res Program). Makes img c a c' F t m) (linked_marked rules (contract_at img)) h)
+  by_marks {P} f g = go (marked rules (contract_at img)) refl (subst (λ (m : Res Program). Makes img c a c' F t m) (linked_marked rules (contract_at img)) h)
     where
       go : (m : Res Built) → marked rules (contract_at img) ≡ m → Makes img c a c' F t (closed.◌>>=◌ m (λ b. ok (record { words = link b.table 0 b.code; table = b.table }))) → P
       go (ok b) e (made _ k s) = f b (record { is = e; zero = ap (λ (x : Answer). x.refusal) k.is; count = ap (λ (x : Answer). x.count) k.is ∙ link_length b.table 0 b.code; firsts = k.firsts })
       go (bad q) e (not_made _ k s) = g q e k.is k.numbered
 
-  pub why-refused : (index : ℕ) {r : Why} → (a.refusal ≡ 0 → ⊥) → r ≡ refusing a → r ≡ why_in index (marked rules (contract_at img))
+  pub why_refused : (index : ℕ) {r : Why} → (a.refusal ≡ 0 → ⊥) → r ≡ refusing a → r ≡ why_in index (marked rules (contract_at img))
   unfolding why_in because number_of place_of
-  why-refused index z e = by-marks (λ b k. absurd (z k.zero))
+  why_refused index z e = by_marks (λ b k. absurd (z k.zero))
       (λ q m n y. e ∙ ap refusing n ∙ sym (ap (why_in index) m))
 
   -- 02: 53
-  pub why-past : (index : ℕ) {r : Why} → a.refusal ≡ 0 → a.count ≤ index → r ≡ because 53 0 none → r ≡ why_in index (marked rules (contract_at img))
+  pub why_past : (index : ℕ) {r : Why} → a.refusal ≡ 0 → a.count ≤ index → r ≡ because 53 0 none → r ≡ why_in index (marked rules (contract_at img))
   unfolding why_in word_why
-  why-past index z l e = by-marks (λ b k. e ∙ sym (ap (why_in index) k.is ∙ ap (word_why b.table index) (nth_past b.code index (omega (arith, l, k.count)))))
+  why_past index z l e = by_marks (λ b k. e ∙ sym (ap (why_in index) k.is ∙ ap (word_why b.table index) (nth_past b.code index (omega (arith, l, k.count)))))
       (λ q m n y. absurd (y z))
 
-  pub why-word : (index : ℕ) (R : Rules) {s : Spot} {r : Why} → rules_of R ≡ rules → a.refusal ≡ 0 → index < a.count → a.count < 4294967295 → Opened img R F a.count index s → r ≡ because 0 s.place (target_in F s)
+  pub why_word : (index : ℕ) (R : Rules) {s : Spot} {r : Why} → rules_of R ≡ rules → a.refusal ≡ 0 → index < a.count → a.count < 4294967295 → Opened img R F a.count index s → r ≡ because 0 s.place (target_in F s)
       → r ≡ why_in index (marked rules (contract_at img))
   unfolding why_in word_why
-  why-word index R {s} {r} f z l low o e = by-marks (λ b k.
+  why_word index R {s} {r} f z l low o e = by_marks (λ b k.
       let w = nth_some b.code index (omega (arith, l, k.count)) in
       let m = o.spot b (ap (λ (x : target.Rules). marked x (contract_at img)) f ∙ k.is) k.count low k.firsts w.word w.is in
-      e ∙ ap (λ (x : Spot). because 0 x.place (target_in F x)) m ∙ spot-why (contract_at img) b.table F (cuts.cut img).functions (same_targets img F b k.is k.firsts) index w.word
+      e ∙ ap (λ (x : Spot). because 0 x.place (target_in F x)) m ∙ spot_why (contract_at img) b.table F (cuts.cut img).functions (same_targets img F b k.is k.firsts) index w.word
       ∙ sym (ap (why_in index) k.is ∙ ap (word_why b.table index) w.is))
       (λ q m n y. absurd (y z))
 
@@ -320,30 +320,30 @@ module _ {img : List ℕ} {c c' : Sinks} {a : Answer} {F t : List ℕ} (h : Make
   pub few_words : Passed img → a.refusal ≡ 0 → a.count < 1048576
   unfolding rules
   few_words p z =
-      let w = make-fine h z in
+      let w = make_fine h z in
       let s = sound_of (check_of img) p in
       let b = from_ok (subst (All (λ (P : Program). Bounded P)) w.is (generated rules (omega arith) img s.end s.names s.is)) in
       omega (arith, ap (λ (x : Answer). x.count) w.holds.is, b.short)
 
   -- there is a function
-  pub some-function : a.refusal ≡ 0 → 0 < length (functions_in img)
-  some-function z = by-marks (λ b k. omega (arith, marked_some rules (contract_at img) b k.is, count_of img)) (λ q m n y. absurd (y z))
+  pub some_function : a.refusal ≡ 0 → 0 < length (functions_in img)
+  some_function z = by_marks (λ b k. omega (arith, marked_some rules (contract_at img) b k.is, count_of img)) (λ q m n y. absurd (y z))
 
 -- The whole answer: what the front refuses, or what generation comes to.
 module _ (img : List ℕ) (index : ℕ) {a : Answer} (h : a ≡ analysis_answer (judged img)) where
-  pub whole-refused : {r : Why} → (a.refusal ≡ 0 → ⊥) → r ≡ refusing a → r ≡ why_of img index
+  pub whole_refused : {r : Why} → (a.refusal ≡ 0 → ⊥) → r ≡ refusing a → r ≡ why_of img index
   unfolding why_of marked_of why_in because number_of place_of analysis_answer closed.◌>>=◌
-  whole-refused {r} z e = e ∙ go (judged img) h
+  whole_refused {r} z e = e ∙ go (judged img) h
     where
       go : (m : Res Contract) → a ≡ analysis_answer m → refusing a ≡ why_in index (closed.◌>>=◌ m (marked rules))
       go (ok C) q = absurd (z (ap (λ (x : Answer). x.refusal) q))
       go (bad q) y = ap refusing y
 
   -- behind the front the contract is the image's
-  pub whole-generated : {r : Why} → a.refusal ≡ 0 → r ≡ why_in index (marked rules (contract_at img)) → r ≡ why_of img index
+  pub whole_generated : {r : Why} → a.refusal ≡ 0 → r ≡ why_in index (marked rules (contract_at img)) → r ≡ why_of img index
   unfolding why_of marked_of closed.◌>>=◌ analysis_answer
-  whole-generated {r} z e = e ∙ go (judged img) refl (said_all (judged_plain img))
+  whole_generated {r} z e = e ∙ go (judged img) refl (said_all (judged_plain img))
     where
       go : (m : Res Contract) → judged img ≡ m → All (Of img) m → why_in index (marked rules (contract_at img)) ≡ why_in index (closed.◌>>=◌ m (marked rules))
       go (ok C) q l = ap (λ (D : Contract). why_in index (marked rules D)) (sym (from_ok l).is)
-      go (bad q) y l = absurd (no-refusal img q (sym y) (h ∙ ap analysis_answer y) z)
+      go (bad q) y l = absurd (no_refusal img q (sym y) (h ∙ ap analysis_answer y) z)

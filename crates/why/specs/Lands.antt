@@ -23,7 +23,7 @@ use Rattle.rules.specs.Link.{Built, functions, less, distance, patch, link, open
 use Rattle.rules.specs.Why.{mark_of, landing, target_of, marked}
 use Rattle.bounds.specs.Answers.{All, all_ok, all_bad, from_ok, all_bind, all_next, all_pick}
 use Rattle.bounds.specs.Held.{Each, each_map}
-use Rattle.bounds.specs.Whole.{Here, Whole, Whole-exprs, Whole-inits, Whole-stmt, Whole-stmts, Whole-function}
+use Rattle.bounds.specs.Whole.{Here, Whole, Whole-exprs, Whole-inits, Whole-stmt, Whole-stmts, WholeFunction}
 use Rattle.bounds.specs.ContractOf.{all_whole}
 
 -- An offset that leads ahead.
@@ -171,11 +171,11 @@ module _ (img : List ℕ) where
       stmts-good Stmts.none h = search steps
       stmts-good (Stmts.more x xs) h = search (steps, stmt-good x h.0, stmts-good xs h.1)
 
-    function-good : (f : Function) → Whole-function img f → Fine (λ l. l) (function R C f)
+    function-good : (f : Function) → WholeFunction img f → Fine (λ l. l) (function R C f)
     unfolding function mark_of
     function-good f h = all_next _ _ (λ a. all_next _ _ (λ rs. search (steps, stmts-good f.body h.stmts) depth 16))
 
-    functions-good : (i : ℕ) (fs : List Function) → Each (λ (f : Function). Whole-function img f) fs → All (λ (b : Built). Goods b.code) (functions R C i fs)
+    functions-good : (i : ℕ) (fs : List Function) → Each (λ (f : Function). WholeFunction img f) fs → All (λ (b : Built). Goods b.code) (functions R C i fs)
     unfolding functions
     functions-good i [] h = search steps
     functions-good i (f ∷ fs) h = all_bind _ _ (function-good f h.0) (λ c u. all_bind _ _ (functions-good (i + length c) fs h.1) (λ r w. all_ok _ (joined c _ u w)))

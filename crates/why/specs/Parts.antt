@@ -101,9 +101,9 @@ module _ (R : Rules) (C : Contract) (img : List ℕ) where
   all i ps = functions R C i (map (function_at img) ps)
 
   -- The first function starts where they all do.
-  pub first-is : (i : ℕ) (ps : List ℕ) (b : Built) → all i ps ≡ ok b → 0 < length ps → get_or (firsts_of b.table) 0 0 ≡ i
-  first-is i [] b e h = absurd (omega arith)
-  first-is i (p ∷ ps) b e h = ap (λ (T : List Entry). get_or (firsts_of T) 0 0) (more R C i (function_at img p) (map (function_at img) ps) b e).table
+  pub first_is : (i : ℕ) (ps : List ℕ) (b : Built) → all i ps ≡ ok b → 0 < length ps → get_or (firsts_of b.table) 0 0 ≡ i
+  first_is i [] b e h = absurd (omega arith)
+  first_is i (p ∷ ps) b e h = ap (λ (T : List Entry). get_or (firsts_of T) 0 0) (more R C i (function_at img p) (map (function_at img) ps) b e).table
 
   none_left : (i : ℕ) (ps : List ℕ) (b : Built) → all i ps ≡ ok b → 0 ≡ length ps → length b.code ≡ 0
   unfolding functions
@@ -132,7 +132,7 @@ module _ (R : Rules) (C : Contract) (img : List ℕ) where
         inside = λ j l.
             let n : get_or (firsts_of b.table) 0 0 - i + j ≡ j = omega (arith, z) in
             ap (λ (x : ℕ). nth x b.code) n ∙ ap (nth j) m.code ∙ nth_first m.words m.rest.code j l;
-        next = λ l. ap (λ (T : List Entry). get_or (firsts_of T) 1 0) m.table ∙ first-is (i + length m.words) ps m.rest m.others (omega (arith, l)) ∙ ap (λ (x : ℕ). x + length m.words) (sym z);
+        next = λ l. ap (λ (T : List Entry). get_or (firsts_of T) 1 0) m.table ∙ first_is (i + length m.words) ps m.rest m.others (omega (arith, l)) ∙ ap (λ (x : ℕ). x + length m.words) (sym z);
         last = λ q. omega (arith, l, z, none_left (i + length m.words) ps m.rest m.others (omega (arith, q)));
         fits = omega (arith, l, z);
       }
@@ -154,12 +154,12 @@ module _ (R : Rules) (C : Contract) (img : List ℕ) where
         fits = omega (arith, l, z, q.fits);
       }
 
-  pub table-length : (i : ℕ) (ps : List ℕ) (b : Built) → all i ps ≡ ok b → length b.table ≡ length ps
+  pub table_length : (i : ℕ) (ps : List ℕ) (b : Built) → all i ps ≡ ok b → length b.table ≡ length ps
   unfolding functions
-  table-length i [] b e = ap (λ (x : Built). length x.table) (sym (ok_same e))
-  table-length i (p ∷ ps) b e =
+  table_length i [] b e = ap (λ (x : Built). length x.table) (sym (ok_same e))
+  table_length i (p ∷ ps) b e =
       let m = more R C i (function_at img p) (map (function_at img) ps) b e in
-      ap length m.table ∙ ap suc (table-length (i + length m.words) ps m.rest m.others)
+      ap length m.table ∙ ap suc (table_length (i + length m.words) ps m.rest m.others)
 
 -- 000: func_offsets.get, by the function's index
 targets_else : {A : Type 0} (f : Entry → A) (g : ℕ → A) (a b : Option Entry) (c d : Option ℕ) → mapped f a ≡ mapped g c → mapped f b ≡ mapped g d → mapped f (or_else a b) ≡ mapped g (or_else c d)

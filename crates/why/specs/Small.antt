@@ -67,38 +67,38 @@ few r p (some t) h g f = record { refusal = h; place = g; target = f }
 
 module _ (img : List ℕ) (i : ℕ) where
   -- Of the word at index i, the kth of those that are left.
-  word-few : (T : List Entry) (k : ℕ) (l : List Open) → length img ≤ 65536 → Firsts T → i + length l ≤ 709933 + k → Each (Good img) l → Ranged l → Few (word_why T i (nth k l))
+  word_few : (T : List Entry) (k : ℕ) (l : List Open) → length img ≤ 65536 → Firsts T → i + length l ≤ 709933 + k → Each (Good img) l → Ranged l → Few (word_why T i (nth k l))
   unfolding word_why nth
-  word-few T k [] b f n h g = few 53 0 none (omega arith) (omega arith) tt
-  word-few T zero (o ∷ l) b f n h g = few 0 (mark_of o) _ (omega arith) (omega (arith, h.0.0)) (target_low T i o f (omega arith) g.0)
-  word-few T (suc k) (o ∷ l) b f n h g = word-few T k l b f (omega arith) h.1 g.1
+  word_few T k [] b f n h g = few 53 0 none (omega arith) (omega arith) tt
+  word_few T zero (o ∷ l) b f n h g = few 0 (mark_of o) _ (omega arith) (omega (arith, h.0.0)) (target_low T i o f (omega arith) g.0)
+  word_few T (suc k) (o ∷ l) b f n h g = word_few T k l b f (omega arith) h.1 g.1
 
   -- Of a refusal.
-  refused-few : (q : Refusal) → Plain q → Few (why_in i (bad q))
+  refused_few : (q : Refusal) → Plain q → Few (why_in i (bad q))
   unfolding why_in
-  refused-few q h = few _ _ none h.few h.near tt
+  refused_few q h = few _ _ none h.few h.near tt
 
   -- Generation refuses alike, whether its words are marked or linked.
-  marked-few : (q m : ℕ) → check_of img ≡ Sound q m → Few (why_in i (marked rules (contract_at img)))
+  marked_few : (q m : ℕ) → check_of img ≡ Sound q m → Few (why_in i (marked rules (contract_at img)))
   unfolding why_in marked generate with_main opening rules ◌>>=◌
-  marked-few q m e = go (last _ _ _) _ _ (generate_plain rules img q m e) (built rules (omega arith) img q m e 3) (marked_good rules img q m e)
+  marked_few q m e = go (last _ _ _) _ _ (generate_plain rules img q m e) (built rules (omega arith) img q m e 3) (marked_good rules img q m e)
     where
       opened : Built → Res Built
       opened b = ok (record { code = opening rules ++ b.code; table = b.table })
 
       go : (o : Option Function) (n : Res Built) (f : Built → Program) → Said Plain (Any Program) (with_main o (n >>= λ b. ok (f b))) → All (λ (b : Built). Short 3 b) n
           → All (λ (b : Built). Each (Good img) b.code) (with_main o (n >>= opened)) → Few (why_in i (with_main o (n >>= opened)))
-      go none n f s h g = refused-few _ (said_of s refl)
-      go (some x) (bad r) f s h g = refused-few r (said_of s refl)
+      go none n f s h g = refused_few _ (said_of s refl)
+      go (some x) (bad r) f s h g = refused_few r (said_of s refl)
       go (some x) (ok b) f s h g =
           let k = from_ok h in
-          word-few b.table i _ (uncut img q m e).bytes k.firsts (omega (arith, k.few)) (from_ok g) (omega arith, (tt, (omega arith, k.ranged)))
+          word_few b.table i _ (uncut img q m e).bytes k.firsts (omega (arith, k.few)) (from_ok g) (omega arith, (tt, (omega arith, k.ranged)))
 
-  judged-few : (m : Res Contract) → Said Plain (λ (C : Contract). Of img C) m → Few (why_in i (m >>= λ C. marked rules C))
+  judged_few : (m : Res Contract) → Said Plain (λ (C : Contract). Of img C) m → Few (why_in i (m >>= λ C. marked rules C))
   unfolding ◌>>=◌
-  judged-few m (said_ok C c) = rw c.is (marked-few c.end c.names c.sound)
-  judged-few m (said_bad q h) = refused-few q h
+  judged_few m (said_ok C c) = rw c.is (marked_few c.end c.names c.sound)
+  judged_few m (said_bad q h) = refused_few q h
 
 pub why_small : (img : List ℕ) (index : ℕ) → Few (why_of img index)
 unfolding why_of marked_of
-why_small img i = judged-few img i (judged img) (judged_plain img)
+why_small img i = judged_few img i (judged img) (judged_plain img)

@@ -18,7 +18,7 @@ use Rattle.rules.specs.Link.{Built}
 use Rattle.rules.specs.Why.{marked}
 use Rattle.tables.specs.Listed.{functions_in}
 use Rattle.emit.specs.declared.Rules.{Rules}
-use Rattle.emit.specs.Steps.{gen-function}
+use Rattle.emit.specs.Steps.{gen_function_lem}
 use Rattle.emit.specs.Ran.{Tally}
 use Rattle.emit.specs.State.{rules_of}
 use Rattle.codegen.specs.Does.{Checked}
@@ -39,7 +39,7 @@ abbrev pub start : ℕ → Tally
 start n = record { err = 0; place = 0; n = n }
 
 pub record InFunction (img : List ℕ) (R : Rules) (f first end want : ℕ) (a : Spot) : Type 0 where
-  pub found : Found (told img want) (gen-function (rules_of R) (contract_at img) (function_at img f)) (start first) end want a
+  pub found : Found (told img want) (gen_function_lem (rules_of R) (contract_at img) (function_at img f)) (start first) end want a
 
 -- function_of, of so many functions
 pub record Lies (F : List ℕ) (count want k : ℕ) : Type 0 where

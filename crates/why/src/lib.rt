@@ -1,6 +1,8 @@
 // Why is this word here (02: P5): the record whose own translation emitted a word of an image's program, and where its offset leads if it was
 // patched later. The program is built once for its refusals and for where each function starts, and no word is kept; then the walk goes
 // down from the function that the word lies in (crates trace and seek).
+#![tactic(auto)]
+
 ghost use Rattle.std.specs.Prelude.{◌≡◌, ◌≤◌};
 ghost use Rattle.rules.specs.Build.{rules};
 ghost use Rattle.rules.specs.Read.{contract_at};

@@ -1,5 +1,7 @@
 // Why each word of a program is there (02: P5): an image on standard input; for each word its index, the place of its record, and 0 or 1 and the
 // index that its offset leads to. A refusal prints `refused`, number and place.
+#![tactic(auto)]
+
 use libc::{STDIN_FILENO, STDOUT_FILENO};
 use rules::Why;
 

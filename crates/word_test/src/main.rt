@@ -1,5 +1,7 @@
 // A test: the word through its public functions: every low byte from 0 to 32 read, and what is known of it, the edge registers and top bits, patches
 // and offsets, a line each; and how many of the 256 low bytes are opcodes.
+#![tactic(auto)]
+
 use isa::{Decoded, Encoded, Fields, Height, Instruction, Op, Opcode};
 use libc::STDOUT_FILENO;
 

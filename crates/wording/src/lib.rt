@@ -1,4 +1,6 @@
 // The texts of the Rust (02: P1), written piece by piece into a lent slice. Nothing is asked of the image; the slice has room for the text.
+#![tactic(auto)]
+
 ghost use Rattle.std.specs.Prelude.{◌≡◌, ◌++◌, ◌+◌, ◌≤◌, length};
 ghost use Rattle.rules.specs.Bytes.{name_at};
 ghost use Rattle.rules.specs.Texts.{bytes, decimal, type_text, text_of};

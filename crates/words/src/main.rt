@@ -1,4 +1,6 @@
 // The lines of the words on standard input (02: P3), 8 little-endian bytes each, a block at a time: any number of them, in constant memory.
+#![tactic(auto)]
+
 use libc::{STDERR_FILENO, STDIN_FILENO, STDOUT_FILENO};
 
 // The words of a block.

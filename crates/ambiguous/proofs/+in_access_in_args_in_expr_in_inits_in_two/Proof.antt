@@ -8,7 +8,7 @@ use Rattle.rules.specs.Read.{expr_at, expr_as, exprs_from, inits_from, kind_of, 
 use Rattle.rules.specs.Ambiguous.{inExpr, inExprs, inInits}
 use Rattle.ambiguous.specs.Spots.{spot_of}
 use Rattle.ambiguous.proofs.Trees.{at_zero, at_kind}
-use Rattle.ambiguous.proofs.Walk.{then_first, then_second, leaf-kind, args-zero, args_end, args-here, args-next, inits-none, inits-over, inits-here, inits-next}
+use Rattle.ambiguous.proofs.Walk.{then_first, then_second, leaf_kind, args-zero, args_end, args-here, args-next, inits-none, inits-over, inits-here, inits-next}
 use borrow.Author.Rules.{rules}
 use Prim.Native.Nat.{ℕ, ◌<◌}
 use borrow.Fn.Kinds.{In}
@@ -227,7 +227,7 @@ in-expr-returns-6 t c = rw (at_kind c.before.before.before.before.before.before.
 
 in-expr-returns-7 : (t : ℕ) → in-expr-lts.Need-returns-7 (kind-reads.Asked, kind-reads.Learnt, second_reads.Asked, second_reads.Learnt, in-expr-below t, in-expr.Post, in-access-below t, in-access.Post, in-inits-below t, in-inits.Post, body-Reads.Asked, body-Reads.Learnt, past-reads.Asked, past-reads.Learnt, in-two-below t, in_two.Post, in-args-below t, in-args.Post) (in-expr-at t) in-expr.Post
 unfolding spot_of
-in-expr-returns-7 t c = rw (at_kind c.before.before.before.before.before.args.d c.before.before.before.before.before.args.img.now c.before.before.before.before.before.args.at c.before.kind.result (kind_of c.before.kind.result) c.before.before.if1.false c.before.kind.ensures.0 refl) (leaf-kind (contract_at c.before.before.before.before.before.args.img.now) (expr_at (c.before.before.before.before.before.args.d - 1) c.before.before.before.before.before.args.img.now) c.before.before.before.before.before.args.img.now c.before.before.before.before.before.args.at c.before.kind.result c.match.rest.0.0.0.0.1 c.match.rest.0.0.0.1 c.match.rest.0.0.1 c.match.rest.0.1 c.match.rest.1)
+in-expr-returns-7 t c = rw (at_kind c.before.before.before.before.before.args.d c.before.before.before.before.before.args.img.now c.before.before.before.before.before.args.at c.before.kind.result (kind_of c.before.kind.result) c.before.before.if1.false c.before.kind.ensures.0 refl) (leaf_kind (contract_at c.before.before.before.before.before.args.img.now) (expr_at (c.before.before.before.before.before.args.d - 1) c.before.before.before.before.before.args.img.now) c.before.before.before.before.before.args.img.now c.before.before.before.before.before.args.at c.before.kind.result c.match.rest.0.0.0.0.1 c.match.rest.0.0.0.1 c.match.rest.0.0.1 c.match.rest.0.1 c.match.rest.1)
 
 abbrev in-inits-Inv-loop : in-inits-lts.invariant-loop
 in-inits-Inv-loop img tables notes d l end p₀ k₀ p k = inInits (contract_at img) (inits_from 64 (expr_at d img) img (inside img l) (after img l)) ≡ inInits (contract_at img) (inits_from k (expr_at d img) img p end)

@@ -1,7 +1,7 @@
 -- first_ambiguous meets its contract.
 -- Assumes nothing.
 use mathlib.Core.Path.{◌∙◌, sym}
-use Rattle.ambiguous.proofs.Walk.{no-ambiguous}
+use Rattle.ambiguous.proofs.Walk.{no_ambiguous}
 use Rattle.ambiguous.specs.Spots.{spot_of}
 use Rattle.rules.specs.Read.{contract_at}
 use borrow.Author.Rules.{rules}
@@ -21,7 +21,7 @@ all-agree-requires c κs = c.before.before.before.before.before.requires.0
 
 returns-2 : tie.Need-returns-2
 unfolding spot_of
-returns-2 c = no-ambiguous (contract_at c.before.before.before.before.before.before.before.args.img.now) (c.before.all-agree.ensures c.if2.true)
+returns-2 c = no_ambiguous (contract_at c.before.before.before.before.before.before.before.args.img.now) (c.before.all-agree.ensures c.if2.true)
 
 in-functions-requires : tie.Need-in-functions-requires
 in-functions-requires c κs = search rules

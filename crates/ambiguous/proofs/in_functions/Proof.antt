@@ -1,7 +1,7 @@
 -- in_functions meets its contract.
 -- Assumes nothing.
 use Prim.Native.Nat.{◌-◌, ◌≤◌}
-use Rattle.ambiguous.proofs.Walk.{functions_from, functions-all, functions-over, functions-here, functions-next}
+use Rattle.ambiguous.proofs.Walk.{functions_from, functions_all, functions-over, functions-here, functions-next}
 use Rattle.ambiguous.specs.Spots.{spot_of}
 use Rattle.rules.specs.Ambiguous.{first_ambiguous_lem}
 use Rattle.rules.specs.Read.{contract_at}
@@ -21,7 +21,7 @@ function-count-requires : tie.Need-function-count-requires invariant-loop decrea
 function-count-requires c κs = search rules
 
 loop-holds : tie.Need-loop-init invariant-loop decreases-loop
-loop-holds c = (omega arith, functions-all c.before.before.before.args.img.now)
+loop-holds c = (omega arith, functions_all c.before.before.before.args.img.now)
 
 function-place-requires : tie.Need-function-place-requires invariant-loop decreases-loop
 function-place-requires c κs = search rules

@@ -4,12 +4,12 @@ use mathlib.Core.Path.{◌≡◌, sym, ◌∙◌}
 use Prim.Native.Nat.{◌-◌, ◌≤◌}
 use native.Mathlib.Omega.{arith}
 use borrow.Author.Rules.{rules}
-use Rattle.codegen.proofs.Mains.{mainOf, none_yet, next, all-taken}
+use Rattle.codegen.proofs.Mains.{main_of, none_yet, next, all_taken}
 use Rattle.codegen.proofs.main_index.Statement.{statement}
 use Rattle.codegen.proofs.main_index.Tie as tie
 
 abbrev invariant-loop : tie.invariant-loop
-invariant-loop img tables count found₀ k₀ found k = (k ≤ count) × (found ≡ mainOf img k)
+invariant-loop img tables count found₀ k₀ found k = (k ≤ count) × (found ≡ main_of img k)
 
 abbrev decreases-loop : tie.decreases-loop
 decreases-loop img tables count found₀ k₀ found k = count - k
@@ -39,7 +39,7 @@ loop-again : tie.Need-loop-preserved invariant-loop decreases-loop
 loop-again c = (omega (arith, c.before.before.before.loop-test.true), next c.before.before.before.before.before.before.before.before.args.img.now _ _ _ _ _ (omega (arith, c.before.before.before.loop-test.true, c.before.before.before.before.before.function-count.ensures c.before.before.before.before.before.before.before.before.args.img.now c.before.before.before.before.before.before.before.before.requires)) (c.before.before.function-place.ensures c.before.before.before.before.before.before.before.before.args.img.now c.before.before.before.before.before.before.before.before.requires (omega (arith, c.before.before.before.loop-test.true, c.before.before.before.before.before.function-count.ensures c.before.before.before.before.before.before.before.before.args.img.now c.before.before.before.before.before.before.before.before.requires))) c.before.is-main.ensures c.before.before.before.before.loop.invariant.1 c.newer.ensures)
 
 returns : tie.Need-returns invariant-loop decreases-loop
-returns c = c.before.loop.invariant.1 ∙ all-taken c.before.before.before.before.before.args.img.now _ (omega (arith, c.loop-test.false, c.before.before.function-count.ensures c.before.before.before.before.before.args.img.now c.before.before.before.before.before.requires))
+returns c = c.before.loop.invariant.1 ∙ all_taken c.before.before.before.before.before.args.img.now _ (omega (arith, c.loop-test.false, c.before.before.function-count.ensures c.before.before.before.before.before.args.img.now c.before.before.before.before.before.requires))
 
 pub main-index-spec : {M : Type 1} → statement M
 main-index-spec =

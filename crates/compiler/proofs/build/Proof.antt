@@ -3,7 +3,7 @@
 use mathlib.Core.Path.{refl}
 use lib.ListN.{length}
 use Rattle.rules.specs.Build.{rules}
-use Rattle.compiler.proofs.Leaving.{fill-given, sized, built-refused, built-accepted}
+use Rattle.compiler.proofs.Leaving.{fill_given, sized, built_refused, built_accepted}
 use borrow.Author.Rules.{rules}
 use Rattle.compiler.proofs.build.Statement.{statement}
 use Rattle.compiler.proofs.build.Tie as tie
@@ -24,7 +24,7 @@ same-length-2 : tie.Need-same-length-2
 same-length-2 c = search rules
 
 returns : tie.Need-returns
-returns c = built-refused rules c.before.before.before.before.before.before.before.before.before.before.before.before.before.before.before.before.args.table.now (rw c.before.before.before.before.before.before.before.before.before.target.ensures.0 at (c.before.before.before.before.before.before.before.before.make.ensures (length c.before.before.before.before.before.before.before.before.before.before.before.before.before.before.before.before.args.table.now) refl)) c.before.before.before.before.if1.taken c.before.before.clear-words.ensures
+returns c = built_refused rules c.before.before.before.before.before.before.before.before.before.before.before.before.before.before.before.before.args.table.now (rw c.before.before.before.before.before.before.before.before.before.target.ensures.0 at (c.before.before.before.before.before.before.before.before.make.ensures (length c.before.before.before.before.before.before.before.before.before.before.before.before.before.before.before.before.args.table.now) refl)) c.before.before.before.before.if1.taken c.before.before.clear-words.ensures
 
 slice-aggregate-fill : tie.Need-slice-aggregate-fill
 slice-aggregate-fill c = sized rules c.before.before.before.before.before.before.before.before.before.before.before.before.before.before.args.table.now (rw c.before.before.before.before.before.before.before.target.ensures.0 at (c.before.before.before.before.before.before.make.ensures (length c.before.before.before.before.before.before.before.before.before.before.before.before.before.before.args.table.now) refl)) c.before.before.if1.left
@@ -36,7 +36,7 @@ function-count-requires : tie.Need-function-count-requires
 function-count-requires c κs = search rules
 
 fill-requires : tie.Need-fill-requires
-fill-requires c κs = fill-given rules c.before.before.before.before.before.before.before.before.before.before.before.before.before.before.before.before.before.args.table.now (rw c.before.before.before.before.before.before.before.before.before.before.target.ensures.0 at (c.before.before.before.before.before.before.before.before.before.make.ensures (length c.before.before.before.before.before.before.before.before.before.before.before.before.before.before.before.before.before.args.table.now) refl)) c.before.before.before.before.before.if1.left (c.function-count.ensures c.before.before.before.before.before.before.before.before.before.before.before.before.before.before.before.before.before.args.image.now)
+fill-requires c κs = fill_given rules c.before.before.before.before.before.before.before.before.before.before.before.before.before.before.before.before.before.args.table.now (rw c.before.before.before.before.before.before.before.before.before.before.target.ensures.0 at (c.before.before.before.before.before.before.before.before.before.make.ensures (length c.before.before.before.before.before.before.before.before.before.before.before.before.before.before.before.before.before.args.table.now) refl)) c.before.before.before.before.before.if1.left (c.function-count.ensures c.before.before.before.before.before.before.before.before.before.before.before.before.before.before.before.before.before.args.image.now)
 
 same-length-3 : tie.Need-same-length-3
 same-length-3 c = search rules
@@ -45,7 +45,7 @@ same-length-4 : tie.Need-same-length-4
 same-length-4 c = search rules
 
 returns-2 : tie.Need-returns-2
-returns-2 c = built-accepted rules c.before.before.before.before.before.before.before.before.before.before.before.before.before.before.before.before.before.before.before.before.args.table.now (rw c.before.before.before.before.before.before.before.before.before.before.before.before.before.target.ensures.0 at (c.before.before.before.before.before.before.before.before.before.before.before.before.make.ensures (length c.before.before.before.before.before.before.before.before.before.before.before.before.before.before.before.before.before.before.before.before.args.table.now) refl)) c.before.before.before.before.before.before.before.before.if1.left (c.before.before.before.function-count.ensures c.before.before.before.before.before.before.before.before.before.before.before.before.before.before.before.before.before.before.before.before.args.image.now) c.before.before.fill.ensures
+returns-2 c = built_accepted rules c.before.before.before.before.before.before.before.before.before.before.before.before.before.before.before.before.before.before.before.before.args.table.now (rw c.before.before.before.before.before.before.before.before.before.before.before.before.before.target.ensures.0 at (c.before.before.before.before.before.before.before.before.before.before.before.before.make.ensures (length c.before.before.before.before.before.before.before.before.before.before.before.before.before.before.before.before.before.before.before.before.args.table.now) refl)) c.before.before.before.before.before.before.before.before.if1.left (c.before.before.before.function-count.ensures c.before.before.before.before.before.before.before.before.before.before.before.before.before.before.before.before.before.before.before.before.args.image.now) c.before.before.fill.ensures
 
 pub build-spec : {M : Type 1} → statement M
 build-spec =

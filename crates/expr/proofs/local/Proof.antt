@@ -1,5 +1,5 @@
 -- `local` meets its contract.
-use Rattle.expr.proofs.Asked.{finds, finds-not}
+use Rattle.expr.proofs.Asked.{finds, finds_not}
 use borrow.Author.Rules.{rules}
 use Rattle.expr.proofs.local.Statement.{statement}
 use Rattle.expr.proofs.local.Tie as tie
@@ -30,7 +30,7 @@ returns c = finds _ _ _ _ _ _ _ _ _ c.before.before.before.before.lookup.ensures
 
 -- src/lib.rt:33:1
 returns-2 : tie.Need-returns-2
-returns-2 c = finds-not _ _ _ _ _ _ _ _ c.before.before.before.lookup.ensures c.before.enum_told.given.1 c.fail.ensures
+returns-2 c = finds_not _ _ _ _ _ _ _ _ c.before.before.before.lookup.ensures c.before.enum_told.given.1 c.fail.ensures
 
 pub local-spec : {M : Type 1} → statement M
 local-spec =

@@ -1,5 +1,5 @@
 -- `storage_slot` meets its contract.
-use Rattle.expr.proofs.Asked.{has-slot, no_slot}
+use Rattle.expr.proofs.Asked.{has_slot, no_slot}
 use borrow.Author.Rules.{rules}
 use Rattle.expr.proofs.storage_slot.Statement.{statement}
 use Rattle.expr.proofs.storage_slot.Tie as tie
@@ -22,7 +22,7 @@ fail-requires c κs = search rules
 
 -- src/lib.rt:43:1
 returns : tie.Need-returns
-returns c = has-slot _ _ _ _ _ _ _ _ c.before.before.before.storage-named.ensures c.before.i.given.1
+returns c = has_slot _ _ _ _ _ _ _ _ c.before.before.before.storage-named.ensures c.before.i.given.1
 
 -- src/lib.rt:43:1
 returns-2 : tie.Need-returns-2

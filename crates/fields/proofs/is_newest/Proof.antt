@@ -1,6 +1,6 @@
 -- is_newest meets its contract.
 -- Assumes nothing.
-use Rattle.fields.proofs.Kept.{newest, newest-none}
+use Rattle.fields.proofs.Kept.{newest, newest_none}
 use Rattle.tables.specs.Listed.{index_of}
 use mathlib.Core.Path.{sym, ap, ◌∙◌}
 use borrow.Author.Rules.{rules}
@@ -22,7 +22,7 @@ returns c = newest c.before.before.before.before.before.before.args.img.now c.be
 
 returns-2 : tie.Need-returns-2
 unfolding index_of
-returns-2 c = absurd (newest-none c.before.before.before.before.before.args.img.now c.before.before.before.before.before.args.i c.before.before.before.before.before.args.x c.before.before.before.before.before.requires.1.0 c.before.before.before.before.before.requires.1.1 (sym (ap index_of c.enum_told.given.1) ∙ c.before.before.struct-named.ensures.index))
+returns-2 c = absurd (newest_none c.before.before.before.before.before.args.img.now c.before.before.before.before.before.args.i c.before.before.before.before.before.args.x c.before.before.before.before.before.requires.1.0 c.before.before.before.before.before.requires.1.1 (sym (ap index_of c.enum_told.given.1) ∙ c.before.before.struct-named.ensures.index))
 
 pub is-newest-spec : {M : Type 1} → statement M
 is-newest-spec =

@@ -3,7 +3,7 @@
 use mathlib.Core.Path.{◌∙◌, sym, ap}
 use native.Mathlib.Omega.{arith}
 use Rattle.notes.specs.Notes.{note_of}
-use Rattle.notes.specs.Left.{note_few, offset-one, offset-none}
+use Rattle.notes.specs.Left.{note_few, offset_one, offset_none}
 use Rattle.fields.specs.Spots.{searched}
 use borrow.Author.Rules.{rules}
 use Rattle.fields.proofs.offset_at.Statement.{statement}
@@ -27,11 +27,11 @@ field-offset-requires c κs = c.before.before.before.before.before.before.requir
 
 returns : tie.Need-returns
 unfolding note_of
-returns c = sym (rw (← c.before.before.before.before.before.before.before.requires.1) at (offset-one c.before.before.before.before.before.before.before.args.img.now c.before.before.before.before.before.before.before.args.notes.now c.before.before.before.before.before.before.before.requires.0.1 c.before.before.before.before.before.before.before.args.at _ (sym c.before.before.before.get.ensures ∙ ap note_of c.before.n.given.1)))
+returns c = sym (rw (← c.before.before.before.before.before.before.before.requires.1) at (offset_one c.before.before.before.before.before.before.before.args.img.now c.before.before.before.before.before.before.before.args.notes.now c.before.before.before.before.before.before.before.requires.0.1 c.before.before.before.before.before.before.before.args.at _ (sym c.before.before.before.get.ensures ∙ ap note_of c.before.n.given.1)))
 
 returns-2 : tie.Need-returns-2
 unfolding note_of searched
-returns-2 c = c.field-offset.ensures ∙ sym (rw (← c.before.before.before.before.before.before.before.requires.1) at (offset-none c.before.before.before.before.before.before.before.args.img.now c.before.before.before.before.before.before.before.args.notes.now c.before.before.before.before.before.before.before.requires.0.1 c.before.before.before.before.before.before.before.args.at (sym c.before.before.before.get.ensures ∙ ap note_of c.before.enum_told.given.1)))
+returns-2 c = c.field-offset.ensures ∙ sym (rw (← c.before.before.before.before.before.before.before.requires.1) at (offset_none c.before.before.before.before.before.before.before.args.img.now c.before.before.before.before.before.before.before.args.notes.now c.before.before.before.before.before.before.before.requires.0.1 c.before.before.before.before.before.before.before.args.at (sym c.before.before.before.get.ensures ∙ ap note_of c.before.enum_told.given.1)))
 
 pub offset-at-spec : {M : Type 1} → statement M
 offset-at-spec =

@@ -2,7 +2,7 @@
 -- Assumes nothing.
 use Prim.Native.Nat.{◌-◌, ◌≤◌}
 use Rattle.fields.proofs.Positions.{found_at, found_none}
-use Rattle.fields.specs.Steps.{field-zero, field_end, field-here, field_next}
+use Rattle.fields.specs.Steps.{field_zero, field_end, field_here, field_next}
 use Rattle.rules.specs.Read.{places_from, field_at, fields_at}
 use Rattle.rules.specs.Tables.{first_index}
 use Rattle.rules.specs.Tree.{Field}
@@ -37,7 +37,7 @@ is-name-requires : tie.Need-is-name-requires invariant-loop decreases-loop
 is-name-requires c κs = search rules
 
 returns : tie.Need-returns invariant-loop decreases-loop
-returns c = found_at c.before.before.before.before.before.before.before.before.before.before.args.img.now c.before.before.before.before.before.before.before.before.before.before.args.l c.before.before.before.before.before.before.before.before.before.before.args.x.now c.before.before.before.before.before.loop.n c.before.before.before.before.loop-test.true (field-here c.before.before.before.before.before.before.before.before.before.before.args.img.now c.before.before.before.before.before.before.before.before.before.before.args.x.now 64 c.before.before.before.before.before.loop.n c.before.before.before.before.before.loop.p c.before.before.before.before.before.before.before.past.result c.before.before.before.before.loop-test.true (ltb-true _ _ c.before.before.before.if1.true) (rw (← c.before.before.body2.ensures.0) (sym c.before.is_name.ensures ∙ c.if2.true)) ∙ sym c.before.before.before.before.before.loop.invariant.1)
+returns c = found_at c.before.before.before.before.before.before.before.before.before.before.args.img.now c.before.before.before.before.before.before.before.before.before.before.args.l c.before.before.before.before.before.before.before.before.before.before.args.x.now c.before.before.before.before.before.loop.n c.before.before.before.before.loop-test.true (field_here c.before.before.before.before.before.before.before.before.before.before.args.img.now c.before.before.before.before.before.before.before.before.before.before.args.x.now 64 c.before.before.before.before.before.loop.n c.before.before.before.before.before.loop.p c.before.before.before.before.before.before.before.past.result c.before.before.before.before.loop-test.true (ltb-true _ _ c.before.before.before.if1.true) (rw (← c.before.before.body2.ensures.0) (sym c.before.is_name.ensures ∙ c.if2.true)) ∙ sym c.before.before.before.before.before.loop.invariant.1)
 
 past-requires-2 : tie.Need-past-requires-2 invariant-loop decreases-loop
 past-requires-2 c κs = search rules
@@ -55,7 +55,7 @@ returns-2 : tie.Need-returns-2 invariant-loop decreases-loop
 returns-2 c = found_none c.before.before.before.before.before.before.before.args.img.now c.before.before.before.before.before.before.before.args.l c.before.before.before.before.before.before.before.args.x.now (field_end c.before.before.before.before.before.before.before.args.img.now c.before.before.before.before.before.before.before.args.x.now 64 c.before.before.loop.n c.before.before.loop.p c.before.before.before.before.past.result (ltb-false _ _ c.if1.false) ∙ sym c.before.before.loop.invariant.1)
 
 returns-3 : tie.Need-returns-3 invariant-loop decreases-loop
-returns-3 c = found_none c.before.before.before.before.before.before.args.img.now c.before.before.before.before.before.before.args.l c.before.before.before.before.before.before.args.x.now (field-zero c.before.before.before.before.before.before.args.img.now c.before.before.before.before.before.before.args.x.now 64 c.before.loop.n c.before.loop.p c.before.before.before.past.result c.loop-test.false ∙ sym c.before.loop.invariant.1)
+returns-3 c = found_none c.before.before.before.before.before.before.args.img.now c.before.before.before.before.before.before.args.l c.before.before.before.before.before.before.args.x.now (field_zero c.before.before.before.before.before.before.args.img.now c.before.before.before.before.before.before.args.x.now 64 c.before.loop.n c.before.loop.p c.before.before.before.past.result c.loop-test.false ∙ sym c.before.loop.invariant.1)
 
 pub position-spec : {M : Type 1} → statement M
 position-spec =

@@ -7,7 +7,7 @@ use Rattle.rules.specs.Check.{ended}
 use Rattle.image.specs.Rows.{off}
 use Rattle.image.specs.Within.{Parts}
 use Rattle.image.proofs.Turns.{Turn, turn_start, passed_is, first_small}
-use Rattle.image.proofs.Loop.{turn-ended, turn-short, turn-refused, turn-own, turn-leaf, turn-tail, turn_in, turn-past}
+use Rattle.image.proofs.Loop.{turn_ended, turn_short, turn-refused, turn-own, turn-leaf, turn-tail, turn_in, turn-past}
 use borrow.Author.Rules.{rules}
 use Prim.Native.Nat.{ℕ, ◌+◌, ◌-◌, ◌%◌, ◌<◌}
 use borrow.Fn.Kinds.{In}
@@ -86,13 +86,13 @@ check-record-is-ended-requires : (t : ℕ) → check-record-lts.Need-is-ended-re
 check-record-is-ended-requires t c κs = search rules
 
 check-record-returns : (t : ℕ) → check-record-lts.Need-returns (told t) (check-record-at t) check-record.Post check-record-Inv-loop check-record-μ-loop
-check-record-returns t c = turn-ended c.before.before.before.before.before.args.t.now c.before.before.before.before.before.args.s.now c.before.before.before.before.before.args.from c.before.before.before.before.before.args.end c.before.before.before.before.before.args.levels c.before.before.before.before.before.args.dues c.before.before.before.before.before.args.vars c.before.before.before.loop.p c.before.before.before.loop.left c.before.before.before.loop.w c.before.before.before.loop.n c.before.before.before.loop.invariant (sym c.before.is-ended.ensures ∙ c.if2.true)
+check-record-returns t c = turn_ended c.before.before.before.before.before.args.t.now c.before.before.before.before.before.args.s.now c.before.before.before.before.before.args.from c.before.before.before.before.before.args.end c.before.before.before.before.before.args.levels c.before.before.before.before.before.args.dues c.before.before.before.before.before.args.vars c.before.before.before.loop.p c.before.before.before.loop.left c.before.before.before.loop.w c.before.before.before.loop.n c.before.before.before.loop.invariant (sym c.before.is-ended.ensures ∙ c.if2.true)
 
 check-record-fault-requires : (t : ℕ) → check-record-lts.Need-fault-requires (told t) (check-record-at t) check-record.Post check-record-Inv-loop check-record-μ-loop
 check-record-fault-requires t c κs = search rules
 
 check-record-returns-2 : (t : ℕ) → check-record-lts.Need-returns-2 (told t) (check-record-at t) check-record.Post check-record-Inv-loop check-record-μ-loop
-check-record-returns-2 t c = subst (λ (x : ℕ). Parts c.before.before.before.before.before.before.args.levels c.before.before.before.before.before.before.args.s.now c.before.before.before.before.before.before.args.from c.before.before.before.before.before.before.args.end c.before.before.before.before.before.before.args.dues c.before.before.before.before.before.before.args.vars x) (sym c.fault.ensures) (turn-short c.before.before.before.before.before.before.args.t.now c.before.before.before.before.before.before.args.s.now c.before.before.before.before.before.before.args.from c.before.before.before.before.before.before.args.end c.before.before.before.before.before.before.args.levels c.before.before.before.before.before.before.args.dues c.before.before.before.before.before.before.args.vars c.before.before.before.before.loop.p c.before.before.before.before.loop.left c.before.before.before.before.loop.w c.before.before.before.before.loop.n c.before.before.before.before.loop.invariant c.before.before.before.if1.true (sym c.before.before.is-ended.ensures ∙ c.before.if2.false))
+check-record-returns-2 t c = subst (λ (x : ℕ). Parts c.before.before.before.before.before.before.args.levels c.before.before.before.before.before.before.args.s.now c.before.before.before.before.before.before.args.from c.before.before.before.before.before.before.args.end c.before.before.before.before.before.before.args.dues c.before.before.before.before.before.before.args.vars x) (sym c.fault.ensures) (turn_short c.before.before.before.before.before.before.args.t.now c.before.before.before.before.before.before.args.s.now c.before.before.before.before.before.before.args.from c.before.before.before.before.before.before.args.end c.before.before.before.before.before.before.args.levels c.before.before.before.before.before.before.args.dues c.before.before.before.before.before.before.args.vars c.before.before.before.before.loop.p c.before.before.before.before.loop.left c.before.before.before.before.loop.w c.before.before.before.before.loop.n c.before.before.before.before.loop.invariant c.before.before.before.if1.true (sym c.before.before.is-ended.ensures ∙ c.before.if2.false))
 
 check-record-word-requires : (t : ℕ) → check-record-lts.Need-word-requires (told t) (check-record-at t) check-record.Post check-record-Inv-loop check-record-μ-loop
 check-record-word-requires t c κs = search rules

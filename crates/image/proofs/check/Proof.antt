@@ -12,13 +12,13 @@ use Rattle.image.specs.Rows.{packed, listed, dues_of, off, inner}
 use Rattle.image.proofs.Header.{framed}
 use Rattle.image.proofs.Table.{right_is}
 use Rattle.image.proofs.Loop.{told_number, told_count}
-use Rattle.image.proofs.Whole.{check-long, check-unframed, check-other, check-fault, check-left, check_sound}
+use Rattle.image.proofs.Whole.{check_long, check-unframed, check-other, check-fault, check-left, check_sound}
 use borrow.Author.Rules.{rules}
 use Rattle.image.proofs.check.Statement.{statement}
 use Rattle.image.proofs.check.Tie as tie
 
 returns : tie.Need-returns
-returns c = check-long c.before.before.args.image.now c.if1.true
+returns c = check_long c.before.before.args.image.now c.if1.true
 
 no-frame-requires : tie.Need-no-frame-requires
 no-frame-requires c κs = search rules

@@ -1,6 +1,6 @@
 -- dues meets its contract.
 -- Assumes nothing.
-use Rattle.lookup.proofs.Signs.{user-dues}
+use Rattle.lookup.proofs.Signs.{user_dues}
 use Rattle.lookup.specs.Answers.{due_of, sig_at}
 use Rattle.rules.specs.Analyse.{params_of, repeated}
 use borrow.Author.Rules.{rules}
@@ -34,7 +34,7 @@ returns c = rw c.before.c.given.1
 
 returns-2 : tie.Need-returns-2
 unfolding due_of
-returns-2 c = rw (c.before.before.before.before.before.c2.given.1, c.before.body2.ensures.0, c.past2.ensures.0, c.before.before.past.ensures.0, c.before.before.before.body.ensures.0) (user-dues c.before.before.before.before.before.before.before.before.args.img.now _)
+returns-2 c = rw (c.before.before.before.before.before.c2.given.1, c.before.body2.ensures.0, c.past2.ensures.0, c.before.before.past.ensures.0, c.before.before.before.body.ensures.0) (user_dues c.before.before.before.before.before.before.before.before.args.img.now _)
 
 returns-3 : tie.Need-returns-3
 unfolding due_of sig_at params_of repeated

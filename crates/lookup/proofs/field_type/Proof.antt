@@ -6,7 +6,7 @@ use Rattle.rules.specs.Bytes.{name_at}
 use Rattle.rules.specs.Tables.{mapped}
 use Rattle.lookup.specs.Answers.{got_of}
 use Rattle.lookup.specs.Fields.{last_of}
-use Rattle.lookup.proofs.Signs.{field-last}
+use Rattle.lookup.proofs.Signs.{field_last}
 use borrow.Author.Rules.{rules}
 use Rattle.lookup.proofs.field_type.Statement.{statement}
 use Rattle.lookup.proofs.field_type.Tie as tie
@@ -34,11 +34,11 @@ enum_told c = search rules
 
 returns : tie.Need-returns
 unfolding got_of last_of mapped
-returns c = ap some c.declared.ensures ∙ field-last c.before.before.before.before.before.before.before.before.before.args.img.now (name_at c.before.before.before.before.before.before.before.before.before.args.img.now c.before.before.before.before.before.before.before.before.before.args.x) _ (sym (ap last_of c.before.before.f.given.1) ∙ (rw (c.before.before.before.before.before.before.past.ensures.0, c.before.before.before.before.before.before.before.body.ensures.0, c.before.before.before.before.before.name.ensures) at c.before.before.before.before.field-spot.ensures).last)
+returns c = ap some c.declared.ensures ∙ field_last c.before.before.before.before.before.before.before.before.before.args.img.now (name_at c.before.before.before.before.before.before.before.before.before.args.img.now c.before.before.before.before.before.before.before.before.before.args.x) _ (sym (ap last_of c.before.before.f.given.1) ∙ (rw (c.before.before.before.before.before.before.past.ensures.0, c.before.before.before.before.before.before.before.body.ensures.0, c.before.before.before.before.before.name.ensures) at c.before.before.before.before.field-spot.ensures).last)
 
 returns-2 : tie.Need-returns-2
 unfolding got_of last_of mapped
-returns-2 c = field-last c.before.before.before.before.before.before.before.args.img.now (name_at c.before.before.before.before.before.before.before.args.img.now c.before.before.before.before.before.before.before.args.x) _ (sym (ap last_of c.enum_told.given.1) ∙ (rw (c.before.before.before.before.past.ensures.0, c.before.before.before.before.before.body.ensures.0, c.before.before.before.name.ensures) at c.before.before.field-spot.ensures).last)
+returns-2 c = field_last c.before.before.before.before.before.before.before.args.img.now (name_at c.before.before.before.before.before.before.before.args.img.now c.before.before.before.before.before.before.before.args.x) _ (sym (ap last_of c.enum_told.given.1) ∙ (rw (c.before.before.before.before.past.ensures.0, c.before.before.before.before.before.body.ensures.0, c.before.before.before.name.ensures) at c.before.before.field-spot.ensures).last)
 
 pub field-type-spec : {M : Type 1} → statement M
 field-type-spec =

@@ -2,7 +2,7 @@
 -- Assumes nothing.
 use Rattle.lookup.proofs.Signs.{repeated_rest}
 use Rattle.lookup.specs.Answers.{due_of}
-use Rattle.lookup.specs.Places.{places-end, places-more, places-zero}
+use Rattle.lookup.specs.Places.{places_end, places_more, places_zero}
 use Rattle.rules.specs.Analyse.{repeated}
 use borrow.Author.Rules.{rules}
 use Rattle.lookup.proofs.next_due.Statement.{statement}
@@ -23,11 +23,11 @@ enum-known-due-2 c = search rules
 
 returns-2 : tie.Need-returns-2
 unfolding due_of
-returns-2 c = rw (c.before.before.due2.given.1, places-zero c.before.before.before.before.before.args.img.now _ _ _ c.if2.true)
+returns-2 c = rw (c.before.before.due2.given.1, places_zero c.before.before.before.before.before.args.img.now _ _ _ c.if2.true)
 
 returns-3 : tie.Need-returns-3
 unfolding due_of
-returns-3 c = rw (c.before.before.before.due2.given.1, places-end c.before.before.before.before.before.before.args.img.now _ _ _ c.if3.true)
+returns-3 c = rw (c.before.before.before.due2.given.1, places_end c.before.before.before.before.before.before.args.img.now _ _ _ c.if3.true)
 
 past-requires : tie.Need-past-requires
 past-requires c κs = search rules
@@ -41,7 +41,7 @@ returns-4 c = rw c.before.before.due.given.1 (repeated_rest _ c.if1.false)
 
 returns-5 : tie.Need-returns-5
 unfolding due_of
-returns-5 c = rw (c.before.before.before.before.due2.given.1, places-more c.before.before.before.before.before.before.before.args.img.now _ _ _ c.before.before.if2.false c.before.if3.false, c.past.ensures.0)
+returns-5 c = rw (c.before.before.before.before.due2.given.1, places_more c.before.before.before.before.before.before.before.args.img.now _ _ _ c.before.before.if2.false c.before.if3.false, c.past.ensures.0)
 
 pub next-due-spec : {M : Type 1} → statement M
 next-due-spec =

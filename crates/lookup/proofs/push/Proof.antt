@@ -3,7 +3,7 @@
 use mathlib.Core.Path.{◌∙◌}
 use native.Mathlib.Omega.{arith}
 use lib.ListN.{length-set}
-use Rattle.lookup.proofs.Scopes.{type-fits, pushed}
+use Rattle.lookup.proofs.Scopes.{type_fits, pushed}
 use borrow.Author.Rules.{rules}
 use Rattle.lookup.proofs.push.Statement.{statement}
 use Rattle.lookup.proofs.push.Tie as tie
@@ -24,10 +24,10 @@ mul-beside : tie.Need-overflow-mul-beside
 mul-beside c = omega (arith, c.before.before.before.before.before.before.requires.1, c.within.ensures.0)
 
 add-beside : tie.Need-overflow-add-beside
-add-beside c = omega (arith, type-fits c.before.before.before.before.before.before.args.img.now c.before.before.tag.result c.within.result c.before.before.before.before.before.before.args.t (c.before.before.tag.ensures c.before.before.before.before.before.before.args.img.now) c.before.before.before.before.before.before.requires.1 c.within.ensures.0)
+add-beside c = omega (arith, type_fits c.before.before.before.before.before.before.args.img.now c.before.before.tag.result c.within.result c.before.before.before.before.before.before.args.t (c.before.before.tag.ensures c.before.before.before.before.before.before.args.img.now) c.before.before.before.before.before.before.requires.1 c.within.ensures.0)
 
 beside-requires : tie.Need-beside-requires
-beside-requires c κs = (c.before.before.before.before.before.before.requires.1, type-fits c.before.before.before.before.before.before.args.img.now c.before.before.tag.result c.within.result c.before.before.before.before.before.before.args.t (c.before.before.tag.ensures c.before.before.before.before.before.before.args.img.now) c.before.before.before.before.before.before.requires.1 c.within.ensures.0)
+beside-requires c κs = (c.before.before.before.before.before.before.requires.1, type_fits c.before.before.before.before.before.before.args.img.now c.before.before.tag.result c.within.result c.before.before.before.before.before.before.args.t (c.before.before.tag.ensures c.before.before.before.before.before.before.args.img.now) c.before.before.before.before.before.before.requires.1 c.within.ensures.0)
 
 mul-env : tie.Need-overflow-mul-env
 mul-env c = search rules

@@ -1,6 +1,6 @@
 -- same_type meets its contract.
 -- Assumes nothing.
-use Rattle.lookup.proofs.Sorts.{other-tags, low-tags, same-tags}
+use Rattle.lookup.proofs.Sorts.{other_tags, low_tags, same_tags}
 use Rattle.lookup.specs.Answers.{ty_of}
 use mathlib.Core.Path.{◌∙◌}
 use borrow.Author.Rules.{rules}
@@ -14,10 +14,10 @@ tag-requires-2 : tie.Need-tag-requires-2
 tag-requires-2 c κs = search rules
 
 returns : tie.Need-returns
-returns c = let o = c.before.before.before.before.args in other-tags (ty_of o.img.now o.a) (ty_of o.img.now o.b) (c.before.before.tag.ensures o.img.now) (c.before.tag2.ensures o.img.now) c.if1.true
+returns c = let o = c.before.before.before.before.args in other_tags (ty_of o.img.now o.a) (ty_of o.img.now o.b) (c.before.before.tag.ensures o.img.now) (c.before.tag2.ensures o.img.now) c.if1.true
 
 returns-2 : tie.Need-returns-2
-returns-2 c = let o = c.before.before.before.before.before.args in low-tags (ty_of o.img.now o.a) (ty_of o.img.now o.b) (c.before.before.before.tag.ensures o.img.now) (c.before.before.tag2.ensures o.img.now) c.before.if1.false c.if2.true
+returns-2 c = let o = c.before.before.before.before.before.args in low_tags (ty_of o.img.now o.a) (ty_of o.img.now o.b) (c.before.before.before.tag.ensures o.img.now) (c.before.before.tag2.ensures o.img.now) c.before.if1.false c.if2.true
 
 name-place-requires : tie.Need-name-place-requires
 name-place-requires c κs = search rules
@@ -30,7 +30,7 @@ same-name-requires c κs = search rules
 
 returns-3 : tie.Need-returns-3
 returns-3 c = let o = c.before.before.before.before.before.before.before.before.args in
-    c.same_name.ensures ∙ same-tags (ty_of o.img.now o.a) (ty_of o.img.now o.b) (c.before.before.before.before.before.before.tag.ensures o.img.now) (c.before.before.before.before.before.tag2.ensures o.img.now) c.before.before.before.before.if1.false c.before.before.name-place.ensures c.before.name-place2.ensures
+    c.same_name.ensures ∙ same_tags (ty_of o.img.now o.a) (ty_of o.img.now o.b) (c.before.before.before.before.before.before.tag.ensures o.img.now) (c.before.before.before.before.before.tag2.ensures o.img.now) c.before.before.before.before.if1.false c.before.before.name-place.ensures c.before.name-place2.ensures
 
 pub same-type-spec : {M : Type 1} → statement M
 same-type-spec =

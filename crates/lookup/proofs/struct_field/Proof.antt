@@ -2,7 +2,7 @@
 -- Assumes nothing.
 use mathlib.Core.Option.{some}
 use mathlib.Core.Path.{◌∙◌, ap, sym}
-use Rattle.rules.specs.Analyse.{access, field_of, structNamed}
+use Rattle.rules.specs.Analyse.{access, field_of, struct_named}
 use Rattle.rules.specs.Bytes.{name_at}
 use Rattle.rules.specs.Read.{struct_at, contract_at}
 use Rattle.rules.specs.Tables.{mapped}
@@ -14,8 +14,8 @@ use Rattle.lookup.specs.Answers.{fault_of, ty_of, typed_of}
 use Rattle.lookup.specs.Fields.{first_of, last_of}
 use Rattle.lookup.specs.Results.{known_none, known_some}
 use Rattle.lookup.proofs.Fits.{field_declared, field_undeclared}
-use Rattle.lookup.proofs.Signs.{field-last}
-use Rattle.lookup.proofs.Spots.{spot_in, marked-at, marked-none}
+use Rattle.lookup.proofs.Signs.{field_last}
+use Rattle.lookup.proofs.Spots.{spot_in, marked_at, marked_none}
 use borrow.Author.Rules.{rules}
 use Rattle.lookup.proofs.struct_field.Statement.{statement}
 use Rattle.lookup.proofs.struct_field.Tie as tie
@@ -58,24 +58,24 @@ leave-requires : tie.Need-leave-requires
 leave-requires c κs = search rules
 
 returns : tie.Need-returns
-unfolding typed_of access field_of structNamed place_of mapped first_of last_of
+unfolding typed_of access field_of struct_named place_of mapped first_of last_of
 returns c = record {
-  types = field_declared _ _ _ (sym (ap (λ (o : Found). mapped (struct_at c.before.before.before.before.before.before.before.before.before.before.before.before.before.before.before.before.args.img.now) (place_of o)) c.before.before.before.before.before.before.before.before.before.before.before.d.given.1) ∙ struct_is c.before.before.before.before.before.before.before.before.before.before.before.before.before.before.before.before.args.img.now c.before.before.before.before.before.before.before.before.before.before.before.before.before.before.before.before.args.s _ c.before.before.before.before.before.before.before.before.before.before.before.before.before.struct-named.ensures) (known_some _ (ap some c.declared.ensures ∙ field-last c.before.before.before.before.before.before.before.before.before.before.before.before.before.before.before.before.args.img.now (name_at c.before.before.before.before.before.before.before.before.before.before.before.before.before.before.before.before.args.img.now c.before.before.before.before.before.before.before.before.before.before.before.before.before.before.before.before.args.x) _ (sym (ap last_of c.before.before.before.before.f.given.1) ∙ (rw (c.before.before.before.before.before.before.before.before.past.ensures.0, c.before.before.before.before.before.before.before.before.before.body.ensures.0, c.before.before.before.before.before.before.before.name.ensures) at c.before.before.before.before.before.before.field-spot.ensures).last)));
-  notes = λ u h. c.before.set.ensures ∙ marked-at (contract_at c.before.before.before.before.before.before.before.before.before.before.before.before.before.before.before.before.args.img.now) (name_at c.before.before.before.before.before.before.before.before.before.before.before.before.before.before.before.before.args.img.now c.before.before.before.before.before.before.before.before.before.before.before.before.before.before.before.before.args.s) (name_at c.before.before.before.before.before.before.before.before.before.before.before.before.before.before.before.before.args.img.now c.before.before.before.before.before.before.before.before.before.before.before.before.before.before.before.before.args.x) _ _ (sym (ap (λ (o : Found). mapped (struct_at c.before.before.before.before.before.before.before.before.before.before.before.before.before.before.before.before.args.img.now) (place_of o)) c.before.before.before.before.before.before.before.before.before.before.before.d.given.1) ∙ struct_is c.before.before.before.before.before.before.before.before.before.before.before.before.before.before.before.before.args.img.now c.before.before.before.before.before.before.before.before.before.before.before.before.before.before.before.before.args.s _ c.before.before.before.before.before.before.before.before.before.before.before.before.before.struct-named.ensures) (spot_in c.before.before.before.before.before.before.before.before.before.before.before.before.before.before.before.before.args.img.now _ (name_at c.before.before.before.before.before.before.before.before.before.before.before.before.before.before.before.before.args.img.now c.before.before.before.before.before.before.before.before.before.before.before.before.before.before.before.before.args.x) (sym (ap first_of c.before.before.before.before.f.given.1) ∙ (rw (c.before.before.before.before.before.before.before.before.past.ensures.0, c.before.before.before.before.before.before.before.before.before.body.ensures.0, c.before.before.before.before.before.before.before.name.ensures) at c.before.before.before.before.before.before.field-spot.ensures).first));
+  types = field_declared _ _ _ (sym (ap (λ (o : Found). mapped (struct_at c.before.before.before.before.before.before.before.before.before.before.before.before.before.before.before.before.args.img.now) (place_of o)) c.before.before.before.before.before.before.before.before.before.before.before.d.given.1) ∙ struct_is c.before.before.before.before.before.before.before.before.before.before.before.before.before.before.before.before.args.img.now c.before.before.before.before.before.before.before.before.before.before.before.before.before.before.before.before.args.s _ c.before.before.before.before.before.before.before.before.before.before.before.before.before.struct-named.ensures) (known_some _ (ap some c.declared.ensures ∙ field_last c.before.before.before.before.before.before.before.before.before.before.before.before.before.before.before.before.args.img.now (name_at c.before.before.before.before.before.before.before.before.before.before.before.before.before.before.before.before.args.img.now c.before.before.before.before.before.before.before.before.before.before.before.before.before.before.before.before.args.x) _ (sym (ap last_of c.before.before.before.before.f.given.1) ∙ (rw (c.before.before.before.before.before.before.before.before.past.ensures.0, c.before.before.before.before.before.before.before.before.before.body.ensures.0, c.before.before.before.before.before.before.before.name.ensures) at c.before.before.before.before.before.before.field-spot.ensures).last)));
+  notes = λ u h. c.before.set.ensures ∙ marked_at (contract_at c.before.before.before.before.before.before.before.before.before.before.before.before.before.before.before.before.args.img.now) (name_at c.before.before.before.before.before.before.before.before.before.before.before.before.before.before.before.before.args.img.now c.before.before.before.before.before.before.before.before.before.before.before.before.before.before.before.before.args.s) (name_at c.before.before.before.before.before.before.before.before.before.before.before.before.before.before.before.before.args.img.now c.before.before.before.before.before.before.before.before.before.before.before.before.before.before.before.before.args.x) _ _ (sym (ap (λ (o : Found). mapped (struct_at c.before.before.before.before.before.before.before.before.before.before.before.before.before.before.before.before.args.img.now) (place_of o)) c.before.before.before.before.before.before.before.before.before.before.before.d.given.1) ∙ struct_is c.before.before.before.before.before.before.before.before.before.before.before.before.before.before.before.before.args.img.now c.before.before.before.before.before.before.before.before.before.before.before.before.before.before.before.before.args.s _ c.before.before.before.before.before.before.before.before.before.before.before.before.before.struct-named.ensures) (spot_in c.before.before.before.before.before.before.before.before.before.before.before.before.before.before.before.before.args.img.now _ (name_at c.before.before.before.before.before.before.before.before.before.before.before.before.before.before.before.before.args.img.now c.before.before.before.before.before.before.before.before.before.before.before.before.before.before.before.before.args.x) (sym (ap first_of c.before.before.before.before.f.given.1) ∙ (rw (c.before.before.before.before.before.before.before.before.past.ensures.0, c.before.before.before.before.before.before.before.before.before.body.ensures.0, c.before.before.before.before.before.before.before.name.ensures) at c.before.before.before.before.before.before.field-spot.ensures).first));
 }
 
 returns-2 : tie.Need-returns-2
-unfolding typed_of fault_of access field_of structNamed place_of mapped last_of
+unfolding typed_of fault_of access field_of struct_named place_of mapped last_of
 returns-2 c = record {
-  types = field_declared _ _ _ (sym (ap (λ (o : Found). mapped (struct_at c.before.before.before.before.before.before.before.before.before.before.before.before.args.img.now) (place_of o)) c.before.before.before.before.before.before.before.d.given.1) ∙ struct_is c.before.before.before.before.before.before.before.before.before.before.before.before.args.img.now c.before.before.before.before.before.before.before.before.before.before.before.before.args.s _ c.before.before.before.before.before.before.before.before.before.struct-named.ensures) (known_none _ (field-last c.before.before.before.before.before.before.before.before.before.before.before.before.args.img.now (name_at c.before.before.before.before.before.before.before.before.before.before.before.before.args.img.now c.before.before.before.before.before.before.before.before.before.before.before.before.args.x) _ (sym (ap last_of c.enum_told.given.1) ∙ (rw (c.before.before.before.before.past.ensures.0, c.before.before.before.before.before.body.ensures.0, c.before.before.before.name.ensures) at c.before.before.field-spot.ensures).last)));
+  types = field_declared _ _ _ (sym (ap (λ (o : Found). mapped (struct_at c.before.before.before.before.before.before.before.before.before.before.before.before.args.img.now) (place_of o)) c.before.before.before.before.before.before.before.d.given.1) ∙ struct_is c.before.before.before.before.before.before.before.before.before.before.before.before.args.img.now c.before.before.before.before.before.before.before.before.before.before.before.before.args.s _ c.before.before.before.before.before.before.before.before.before.struct-named.ensures) (known_none _ (field_last c.before.before.before.before.before.before.before.before.before.before.before.before.args.img.now (name_at c.before.before.before.before.before.before.before.before.before.before.before.before.args.img.now c.before.before.before.before.before.before.before.before.before.before.before.before.args.x) _ (sym (ap last_of c.enum_told.given.1) ∙ (rw (c.before.before.before.before.past.ensures.0, c.before.before.before.before.before.body.ensures.0, c.before.before.before.name.ensures) at c.before.before.field-spot.ensures).last)));
   notes = λ u h. bad_ok _ u h;
 }
 
 returns-3 : tie.Need-returns-3
-unfolding typed_of ty_of access place_of mapped structNamed
+unfolding typed_of ty_of access place_of mapped struct_named
 returns-3 c = record {
   types = field_undeclared _ _ _ (sym (ap (λ (o : Found). mapped (struct_at c.before.before.before.before.before.before.before.args.img.now) (place_of o)) c.before.before.enum-told2.given.1) ∙ struct_is c.before.before.before.before.before.before.before.args.img.now c.before.before.before.before.before.before.before.args.s _ c.before.before.before.before.struct-named.ensures);
-  notes = λ u h. c.leave.ensures ∙ marked-none (contract_at c.before.before.before.before.before.before.before.args.img.now) (name_at c.before.before.before.before.before.before.before.args.img.now c.before.before.before.before.before.before.before.args.s) (name_at c.before.before.before.before.before.before.before.args.img.now c.before.before.before.before.before.before.before.args.x) _ _ (sym (ap (λ (o : Found). mapped (struct_at c.before.before.before.before.before.before.before.args.img.now) (place_of o)) c.before.before.enum-told2.given.1) ∙ struct_is c.before.before.before.before.before.before.before.args.img.now c.before.before.before.before.before.before.before.args.s _ c.before.before.before.before.struct-named.ensures);
+  notes = λ u h. c.leave.ensures ∙ marked_none (contract_at c.before.before.before.before.before.before.before.args.img.now) (name_at c.before.before.before.before.before.before.before.args.img.now c.before.before.before.before.before.before.before.args.s) (name_at c.before.before.before.before.before.before.before.args.img.now c.before.before.before.before.before.before.before.args.x) _ _ (sym (ap (λ (o : Found). mapped (struct_at c.before.before.before.before.before.before.before.args.img.now) (place_of o)) c.before.before.enum-told2.given.1) ∙ struct_is c.before.before.before.before.before.before.before.args.img.now c.before.before.before.before.before.before.before.args.s _ c.before.before.before.before.struct-named.ensures);
 }
 
 pub struct-field-spec : {M : Type 1} → statement M

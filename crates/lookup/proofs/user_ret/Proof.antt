@@ -1,6 +1,6 @@
 -- user_ret meets its contract.
 -- Assumes nothing.
-use Rattle.lookup.proofs.Signs.{gives_none, gives-type}
+use Rattle.lookup.proofs.Signs.{gives_none, gives_type}
 use Rattle.lookup.specs.Answers.{ty_of}
 use mathlib.Core.Path.{◌∙◌}
 use borrow.Author.Rules.{rules}
@@ -26,7 +26,7 @@ type-at-requires : tie.Need-type-at-requires
 type-at-requires c κs = search rules
 
 returns : tie.Need-returns
-returns c = rw (c.before.before.before.body2.ensures.0, c.before.before.before.before.past2.ensures.0, c.before.before.before.before.before.past.ensures.0, c.before.before.before.before.before.before.body.ensures.0) at c.type_at.ensures ∙ gives-type c.before.before.before.before.before.before.before.before.args.img.now c.before.before.before.before.before.before.before.before.args.p (rw (c.before.before.before.body2.ensures.0, c.before.before.past3.ensures.0, c.before.before.before.before.past2.ensures.0, c.before.before.before.before.before.past.ensures.0, c.before.before.before.before.before.before.body.ensures.0) at c.before.if1.true)
+returns c = rw (c.before.before.before.body2.ensures.0, c.before.before.before.before.past2.ensures.0, c.before.before.before.before.before.past.ensures.0, c.before.before.before.before.before.before.body.ensures.0) at c.type_at.ensures ∙ gives_type c.before.before.before.before.before.before.before.before.args.img.now c.before.before.before.before.before.before.before.before.args.p (rw (c.before.before.before.body2.ensures.0, c.before.before.past3.ensures.0, c.before.before.before.before.past2.ensures.0, c.before.before.before.before.before.past.ensures.0, c.before.before.before.before.before.before.body.ensures.0) at c.before.if1.true)
 
 returns-2 : tie.Need-returns-2
 unfolding ty_of

@@ -1,7 +1,7 @@
 -- `pieces::put_byte` meets its contract.
 -- Assumes nothing.
 use mathlib.Core.Path.{refl, sym}
-use Rattle.lent.specs.Over.{overAt-one}
+use Rattle.lent.specs.Over.{over_at_one}
 use borrow.Author.Rules.{rules}
 use Rattle.pieces.proofs.put_byte.Statement.{statement}
 use Rattle.pieces.proofs.put_byte.Tie as tie
@@ -16,7 +16,7 @@ same_length : tie.Need-same-length
 same_length c = search rules
 
 returns : tie.Need-returns
-returns c = record { laid = sym (overAt-one c.args.n c.args.b c.args.out.now); past = refl }
+returns c = record { laid = sym (over_at_one c.args.n c.args.b c.args.out.now); past = refl }
 
 pub put-byte-spec : {M : Type 1} → statement M
 put-byte-spec = tie.close (tie.spec slice-write-out add-result same_length returns)

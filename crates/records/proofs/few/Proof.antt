@@ -2,7 +2,7 @@
 -- Assumes nothing.
 use mathlib.Core.Path.{sym}
 use native.Mathlib.Omega.{arith}
-use Rattle.records.proofs.Outside.{word_out, word-one, word_two, word-three}
+use Rattle.records.proofs.Outside.{word_out, word_one, word_two, word_three}
 use borrow.Author.Rules.{rules}
 use Rattle.records.proofs.few.Statement.{statement}
 use Rattle.records.proofs.few.Tie as tie
@@ -20,7 +20,7 @@ wide-requires : tie.Need-wide-requires
 wide-requires c κs = search rules
 
 returns-2 : tie.Need-returns-2
-returns-2 c = omega (arith, word-one c.before.before.before.before.before.args.img.now c.before.before.before.before.before.args.i (omega arith))
+returns-2 c = omega (arith, word_one c.before.before.before.before.before.args.img.now c.before.before.before.before.before.args.i (omega arith))
 
 add_wide : tie.Need-overflow-add-wide
 add_wide c = search rules
@@ -56,7 +56,7 @@ add-result : tie.Need-overflow-add-result
 add-result c = search rules
 
 returns-4 : tie.Need-returns-4
-returns-4 c = omega (arith, word-three c.before.before.before.before.before.before.before.before.before.before.args.img.now c.before.before.before.before.before.before.before.before.before.before.args.i (omega arith))
+returns-4 c = omega (arith, word_three c.before.before.before.before.before.before.before.before.before.before.args.img.now c.before.before.before.before.before.before.before.before.before.before.args.i (omega arith))
 
 pub few-spec : {M : Type 1} → statement M
 few-spec =

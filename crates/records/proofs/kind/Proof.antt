@@ -3,7 +3,7 @@
 use mathlib.Core.Path.{◌∙◌}
 use native.Mathlib.Omega.{arith}
 use Rattle.records.specs.Small.{kind_bytes}
-use Rattle.records.proofs.Outside.{kind-near}
+use Rattle.records.proofs.Outside.{kind_near}
 use borrow.Author.Rules.{rules}
 use Rattle.records.proofs.kind.Statement.{statement}
 use Rattle.records.proofs.kind.Tie as tie
@@ -45,7 +45,7 @@ kind-cut-requires : tie.Need-kind-cut-requires
 kind-cut-requires c κs = search rules
 
 returns-2 : tie.Need-returns-2
-returns-2 c = (c.kind-cut.ensures.0 ∙ kind-near c.before.before.before.before.args.img.now c.before.before.before.before.args.i _ c.before.least.ensures, c.kind-cut.ensures.1)
+returns-2 c = (c.kind-cut.ensures.0 ∙ kind_near c.before.before.before.before.args.img.now c.before.before.before.before.args.i _ c.before.least.ensures, c.kind-cut.ensures.1)
 
 pub kind-spec : {M : Type 1} → statement M
 kind-spec =

@@ -1,7 +1,7 @@
 -- `in_binary` meets its contract.
 -- Assumes nothing.
 use borrow.Author.Rules.{rules}
-use Rattle.seek.specs.Parts.{binary-left, binary-right}
+use Rattle.seek.specs.Parts.{binary_left, binary_right}
 use Rattle.seek.proofs.in_binary.Statement.{statement}
 use Rattle.seek.proofs.in_binary.Tie as tie
 
@@ -21,13 +21,13 @@ value-requires : tie.Need-value-requires
 value-requires c κs = search rules
 
 returns : tie.Need-returns
-returns c = binary-left c.before.before.before.before.before.before.body.ensures.0 c.before.before.before.count-expr.ensures c.before.if1.true c.value.ensures
+returns c = binary_left c.before.before.before.before.before.before.body.ensures.0 c.before.before.before.count-expr.ensures c.before.if1.true c.value.ensures
 
 in-value-requires : tie.Need-in-value-requires
 in-value-requires c κs = search rules
 
 returns-2 : tie.Need-returns-2
-returns-2 c = binary-right c.before.before.before.before.before.before.body.ensures.0 c.before.before.before.before.before.past.ensures.0 c.before.before.before.before.past2.ensures.0 c.before.before.before.count-expr.ensures c.before.if1.false c.in-value.ensures
+returns-2 c = binary_right c.before.before.before.before.before.before.body.ensures.0 c.before.before.before.before.before.past.ensures.0 c.before.before.before.before.past2.ensures.0 c.before.before.before.count-expr.ensures c.before.if1.false c.in-value.ensures
 
 pub in-binary-spec : {M : Type 1} → statement M
 in-binary-spec =

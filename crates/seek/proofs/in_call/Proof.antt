@@ -3,7 +3,7 @@
 use mathlib.Core.Path.{sym, ap, ◌∙◌}
 use borrow.Author.Rules.{rules}
 use Rattle.expr.specs.Names.{builtin_of}
-use Rattle.seek.specs.Parts.{call-in, poseidon-in, merkle-in, sender-own, nonce-own, number-own}
+use Rattle.seek.specs.Parts.{call_in, poseidon_in, merkle_in, sender_own, nonce_own, number_own}
 use Rattle.seek.proofs.in_call.Statement.{statement}
 use Rattle.seek.proofs.in_call.Tie as tie
 
@@ -51,27 +51,27 @@ in-user-requires c κs = search rules
 
 returns : tie.Need-returns
 unfolding builtin_of
-returns c = call-in c.before.before.before.before.body.ensures.0 (sym (ap builtin_of c.before.enum_told.given.1) ∙ c.before.before.before.builtin-named.ensures) (poseidon-in c.in_List.ensures)
+returns c = call_in c.before.before.before.before.body.ensures.0 (sym (ap builtin_of c.before.enum_told.given.1) ∙ c.before.before.before.builtin-named.ensures) (poseidon_in c.in_List.ensures)
 
 returns-2 : tie.Need-returns-2
 unfolding builtin_of
-returns-2 c = call-in c.before.before.before.before.body.ensures.0 (sym (ap builtin_of c.before.enum-told2.given.1) ∙ c.before.before.before.builtin-named.ensures) (merkle-in c.in-list2.ensures)
+returns-2 c = call_in c.before.before.before.before.body.ensures.0 (sym (ap builtin_of c.before.enum-told2.given.1) ∙ c.before.before.before.builtin-named.ensures) (merkle_in c.in-list2.ensures)
 
 returns-3 : tie.Need-returns-3
 unfolding builtin_of
-returns-3 c = call-in c.before.before.before.before.body.ensures.0 (sym (ap builtin_of c.before.enum-told3.given.1) ∙ c.before.before.before.builtin-named.ensures) (sender-own c.own.ensures)
+returns-3 c = call_in c.before.before.before.before.body.ensures.0 (sym (ap builtin_of c.before.enum-told3.given.1) ∙ c.before.before.before.builtin-named.ensures) (sender_own c.own.ensures)
 
 returns-4 : tie.Need-returns-4
 unfolding builtin_of
-returns-4 c = call-in c.before.before.before.before.body.ensures.0 (sym (ap builtin_of c.before.enum-told4.given.1) ∙ c.before.before.before.builtin-named.ensures) (nonce-own c.own2.ensures)
+returns-4 c = call_in c.before.before.before.before.body.ensures.0 (sym (ap builtin_of c.before.enum-told4.given.1) ∙ c.before.before.before.builtin-named.ensures) (nonce_own c.own2.ensures)
 
 returns-5 : tie.Need-returns-5
 unfolding builtin_of
-returns-5 c = call-in c.before.before.before.before.body.ensures.0 (sym (ap builtin_of c.before.enum-told5.given.1) ∙ c.before.before.before.builtin-named.ensures) (number-own c.own3.ensures)
+returns-5 c = call_in c.before.before.before.before.body.ensures.0 (sym (ap builtin_of c.before.enum-told5.given.1) ∙ c.before.before.before.builtin-named.ensures) (number_own c.own3.ensures)
 
 returns-6 : tie.Need-returns-6
 unfolding builtin_of
-returns-6 c = call-in c.before.before.before.before.body.ensures.0 (sym (ap builtin_of c.before.enum-told6.given.1) ∙ c.before.before.before.builtin-named.ensures) c.in-user.ensures
+returns-6 c = call_in c.before.before.before.before.body.ensures.0 (sym (ap builtin_of c.before.enum-told6.given.1) ∙ c.before.before.before.builtin-named.ensures) c.in-user.ensures
 
 pub in-call-spec : {M : Type 1} → statement M
 in-call-spec =

@@ -8,8 +8,8 @@ use Rattle.lookup.specs.Scope.{pushed_env}
 use Rattle.rules.specs.Analyse.{stmt, stmts}
 use Rattle.rules.specs.Bytes.{pick}
 use Rattle.rules.specs.Read.{body_at, expr_at, sFor, sIf, sLet, sWhile, stmt_as, stmt_at_lem, stmt_kind_of, stmts_from}
-use Rattle.sema.proofs.Runs.{first_bad, first-ok, for-bad, for-done, in_top, step-bad, step_then, still_ok}
-use Rattle.sema.proofs.Trees.{else-not, else-there, stmt_kind, stmt_zero, stmts-end, stmts-more, stmts-zero, vars-for, vars-if, vars-let, vars_more, vars-while}
+use Rattle.sema.proofs.Runs.{first_bad, first_ok, for-bad, for-done, in_top, step_bad, step_then, still_ok}
+use Rattle.sema.proofs.Trees.{else_not, else_there, stmt_kind, stmt_zero, stmts_end, stmts_more, stmts_zero, vars_for, vars_if, vars_let, vars_more, vars_while}
 use Rattle.sema.specs.Steps.{Steps, in_loop}
 use Rattle.sema.specs.declared.After.{After}
 use borrow.Author.Rules.{rules}
@@ -147,17 +147,17 @@ abbrev analyze-while-told : ℕ → analyze-while-lts.Claims
 analyze-while-told t = (body-Reads.Asked, body-Reads.Learnt, analyze-expr-reads.Asked, analyze-expr-reads.Learnt, past-reads.Asked, past-reads.Learnt, analyze-list-below t, analyze-list.Post)
 
 analyze-else-analyze-list-requires : (t : ℕ) → analyze-else-lts.Need-analyze-list-requires (analyze-else-told t) (analyze-else-at t) analyze-else.Post
-analyze-else-analyze-list-requires t c κs = (omega arith, (c.before.before.before.before.before.before.requires.1.0, rw (else-there (stmt_at_lem c.before.before.before.before.before.before.args.d c.before.before.before.before.before.before.args.img.now) c.before.before.before.before.before.before.args.img.now c.before.before.before.before.before.before.args.at c.before.before.before.before.before.before.args.end c.before.before.if1.true) at c.before.before.before.before.before.before.requires.1.1))
+analyze-else-analyze-list-requires t c κs = (omega arith, (c.before.before.before.before.before.before.requires.1.0, rw (else_there (stmt_at_lem c.before.before.before.before.before.before.args.d c.before.before.before.before.before.before.args.img.now) c.before.before.before.before.before.before.args.img.now c.before.before.before.before.before.before.args.at c.before.before.before.before.before.before.args.end c.before.before.if1.true) at c.before.before.before.before.before.before.requires.1.1))
 
 analyze-else-same-length : (t : ℕ) → analyze-else-lts.Need-same-length (analyze-else-told t) (analyze-else-at t) analyze-else.Post
 analyze-else-same-length t c = search rules
 
 analyze-else-returns : (t : ℕ) → analyze-else-lts.Need-returns (analyze-else-told t) (analyze-else-at t) analyze-else.Post
-analyze-else-returns t c = rw (else-there (stmt_at_lem c.before.before.before.before.before.before.before.before.before.args.d c.before.before.before.before.before.before.before.before.before.args.img.now) c.before.before.before.before.before.before.before.before.before.args.img.now c.before.before.before.before.before.before.before.before.before.args.at c.before.before.before.before.before.before.before.before.before.args.end c.before.before.before.before.before.if1.true) c.before.before.analyze-list.ensures
+analyze-else-returns t c = rw (else_there (stmt_at_lem c.before.before.before.before.before.before.before.before.before.args.d c.before.before.before.before.before.before.before.before.before.args.img.now) c.before.before.before.before.before.before.before.before.before.args.img.now c.before.before.before.before.before.before.before.before.before.args.at c.before.before.before.before.before.before.before.before.before.args.end c.before.before.before.before.before.if1.true) c.before.before.analyze-list.ensures
 
 analyze-else-returns-2 : (t : ℕ) → analyze-else-lts.Need-returns-2 (analyze-else-told t) (analyze-else-at t) analyze-else.Post
 unfolding stmts ofStmts vars-stmts
-analyze-else-returns-2 t c = rw (else-not (stmt_at_lem c.before.before.before.before.args.d c.before.before.before.before.args.img.now) c.before.before.before.before.args.img.now c.before.before.before.before.args.at c.before.before.before.before.args.end c.if1.false) (still_ok refl)
+analyze-else-returns-2 t c = rw (else_not (stmt_at_lem c.before.before.before.before.args.d c.before.before.before.before.args.img.now) c.before.before.before.before.args.img.now c.before.before.before.before.args.at c.before.before.before.before.args.end c.if1.false) (still_ok refl)
 
 analyze-for-body-requires : (t : ℕ) → analyze-for-lts.Need-body-requires (analyze-for-told t) (analyze-for-at t) analyze-for.Post
 analyze-for-body-requires t c κs = search rules
@@ -184,7 +184,7 @@ analyze-for-past-requires-3 : (t : ℕ) → analyze-for-lts.Need-past-requires-3
 analyze-for-past-requires-3 t c κs = search rules
 
 analyze-for-analyze-loop-requires : (t : ℕ) → analyze-for-lts.Need-analyze-loop-requires (analyze-for-told t) (analyze-for-at t) analyze-for.Post
-analyze-for-analyze-loop-requires t c κs = (omega arith, (c.before.before.before.before.before.before.before.before.before.before.before.before.before.before.before.before.before.before.before.requires.1.0, rw (c.past3.ensures.0, c.before.before.before.before.before.before.before.before.before.before.before.before.before.past2.ensures.0, c.before.before.before.before.before.before.before.before.before.before.before.before.before.before.past.ensures.0, c.before.before.before.before.before.before.before.before.before.before.before.before.before.before.before.body.ensures.0) (omega (arith, vars-for (expr_at c.before.before.before.before.before.before.before.before.before.before.before.before.before.before.before.before.before.before.before.args.d c.before.before.before.before.before.before.before.before.before.before.before.before.before.before.before.before.before.before.before.args.img.now) (stmt_at_lem c.before.before.before.before.before.before.before.before.before.before.before.before.before.before.before.before.before.before.before.args.d c.before.before.before.before.before.before.before.before.before.before.before.before.before.before.before.before.before.before.before.args.img.now) c.before.before.before.before.before.before.before.before.before.before.before.before.before.before.before.before.before.before.before.args.img.now c.before.before.before.before.before.before.before.before.before.before.before.before.before.before.before.before.before.before.before.args.at, c.before.before.before.before.before.before.before.before.before.before.before.before.before.before.before.before.before.before.before.requires.1.1))))
+analyze-for-analyze-loop-requires t c κs = (omega arith, (c.before.before.before.before.before.before.before.before.before.before.before.before.before.before.before.before.before.before.before.requires.1.0, rw (c.past3.ensures.0, c.before.before.before.before.before.before.before.before.before.before.before.before.before.past2.ensures.0, c.before.before.before.before.before.before.before.before.before.before.before.before.before.before.past.ensures.0, c.before.before.before.before.before.before.before.before.before.before.before.before.before.before.before.body.ensures.0) (omega (arith, vars_for (expr_at c.before.before.before.before.before.before.before.before.before.before.before.before.before.before.before.before.before.before.before.args.d c.before.before.before.before.before.before.before.before.before.before.before.before.before.before.before.before.before.before.before.args.img.now) (stmt_at_lem c.before.before.before.before.before.before.before.before.before.before.before.before.before.before.before.before.before.before.before.args.d c.before.before.before.before.before.before.before.before.before.before.before.before.before.before.before.before.before.before.before.args.img.now) c.before.before.before.before.before.before.before.before.before.before.before.before.before.before.before.before.before.before.before.args.img.now c.before.before.before.before.before.before.before.before.before.before.before.before.before.before.before.before.before.before.before.args.at, c.before.before.before.before.before.before.before.before.before.before.before.before.before.before.before.before.before.before.before.requires.1.1))))
 
 analyze-for-enum-known-u : (t : ℕ) → analyze-for-lts.Need-enum-known-u (analyze-for-told t) (analyze-for-at t) analyze-for.Post
 analyze-for-enum-known-u t c = search rules
@@ -197,14 +197,14 @@ analyze-for-same-length t c = search rules
 
 analyze-for-returns : (t : ℕ) → analyze-for-lts.Need-returns (analyze-for-told t) (analyze-for-at t) analyze-for.Post
 unfolding stmt ofStmt stmt_as vars typed_of in_loop
-analyze-for-returns t c = first-ok _ _ (sym (ap (typed_of c.before.before.before.before.before.before.before.before.before.before.before.before.before.before.before.before.before.before.before.before.before.before.args.img.now) c.before.before.before.before.before.before.before.before.before.before.before.enum_told.given.1) ∙ rw (c.before.before.before.before.before.before.before.before.before.before.before.before.before.before.before.before.before.past.ensures.0, c.before.before.before.before.before.before.before.before.before.before.before.before.before.before.before.before.before.before.body.ensures.0) at c.before.before.before.before.before.before.before.before.before.before.before.before.before.analyze-expr.ensures.0) ((rw (c.before.before.before.before.before.before.before.before.before.before.before.before.before.before.before.before.before.past.ensures.0, c.before.before.before.before.before.before.before.before.before.before.before.before.before.before.before.before.before.before.body.ensures.0) at c.before.before.before.before.before.before.before.before.before.before.before.before.before.analyze-expr.ensures.1).all _ (ap (typed_of c.before.before.before.before.before.before.before.before.before.before.before.before.before.before.before.before.before.before.before.before.before.before.args.img.now) c.before.before.before.before.before.before.before.before.before.before.before.enum_told.given.1)) (first-ok _ _ (sym (ap (typed_of c.before.before.before.before.before.before.before.before.before.before.before.before.before.before.before.before.before.before.before.before.before.before.args.img.now) c.before.before.before.before.before.before.enum-told2.given.1) ∙ rw (c.before.before.before.before.before.before.before.before.before.before.before.before.before.before.before.before.past2.ensures.0, c.before.before.before.before.before.before.before.before.before.before.before.before.before.before.before.before.before.past.ensures.0, c.before.before.before.before.before.before.before.before.before.before.before.before.before.before.before.before.before.before.body.ensures.0) at c.before.before.before.before.before.before.before.before.analyze-expr2.ensures.0) ((rw (c.before.before.before.before.before.before.before.before.before.before.before.before.before.before.before.before.past2.ensures.0, c.before.before.before.before.before.before.before.before.before.before.before.before.before.before.before.before.before.past.ensures.0, c.before.before.before.before.before.before.before.before.before.before.before.before.before.before.before.before.before.before.body.ensures.0) at c.before.before.before.before.before.before.before.before.analyze-expr2.ensures.1).all _ (ap (typed_of c.before.before.before.before.before.before.before.before.before.before.before.before.before.before.before.before.before.before.before.before.before.before.args.img.now) c.before.before.before.before.before.before.enum-told2.given.1)) (rw (c.before.before.before.past3.ensures.0, c.before.before.before.before.before.before.before.before.before.before.before.before.before.before.before.before.past2.ensures.0, c.before.before.before.before.before.before.before.before.before.before.before.before.before.before.before.before.before.past.ensures.0, c.before.before.before.before.before.before.before.before.before.before.before.before.before.before.before.before.before.before.body.ensures.0) at c.before.before.analyze-loop.ensures))
+analyze-for-returns t c = first_ok _ _ (sym (ap (typed_of c.before.before.before.before.before.before.before.before.before.before.before.before.before.before.before.before.before.before.before.before.before.before.args.img.now) c.before.before.before.before.before.before.before.before.before.before.before.enum_told.given.1) ∙ rw (c.before.before.before.before.before.before.before.before.before.before.before.before.before.before.before.before.before.past.ensures.0, c.before.before.before.before.before.before.before.before.before.before.before.before.before.before.before.before.before.before.body.ensures.0) at c.before.before.before.before.before.before.before.before.before.before.before.before.before.analyze-expr.ensures.0) ((rw (c.before.before.before.before.before.before.before.before.before.before.before.before.before.before.before.before.before.past.ensures.0, c.before.before.before.before.before.before.before.before.before.before.before.before.before.before.before.before.before.before.body.ensures.0) at c.before.before.before.before.before.before.before.before.before.before.before.before.before.analyze-expr.ensures.1).all _ (ap (typed_of c.before.before.before.before.before.before.before.before.before.before.before.before.before.before.before.before.before.before.before.before.before.before.args.img.now) c.before.before.before.before.before.before.before.before.before.before.before.enum_told.given.1)) (first_ok _ _ (sym (ap (typed_of c.before.before.before.before.before.before.before.before.before.before.before.before.before.before.before.before.before.before.before.before.before.before.args.img.now) c.before.before.before.before.before.before.enum-told2.given.1) ∙ rw (c.before.before.before.before.before.before.before.before.before.before.before.before.before.before.before.before.past2.ensures.0, c.before.before.before.before.before.before.before.before.before.before.before.before.before.before.before.before.before.past.ensures.0, c.before.before.before.before.before.before.before.before.before.before.before.before.before.before.before.before.before.before.body.ensures.0) at c.before.before.before.before.before.before.before.before.analyze-expr2.ensures.0) ((rw (c.before.before.before.before.before.before.before.before.before.before.before.before.before.before.before.before.past2.ensures.0, c.before.before.before.before.before.before.before.before.before.before.before.before.before.before.before.before.before.past.ensures.0, c.before.before.before.before.before.before.before.before.before.before.before.before.before.before.before.before.before.before.body.ensures.0) at c.before.before.before.before.before.before.before.before.analyze-expr2.ensures.1).all _ (ap (typed_of c.before.before.before.before.before.before.before.before.before.before.before.before.before.before.before.before.before.before.before.before.before.before.args.img.now) c.before.before.before.before.before.before.enum-told2.given.1)) (rw (c.before.before.before.past3.ensures.0, c.before.before.before.before.before.before.before.before.before.before.before.before.before.before.before.before.past2.ensures.0, c.before.before.before.before.before.before.before.before.before.before.before.before.before.before.before.before.before.past.ensures.0, c.before.before.before.before.before.before.before.before.before.before.before.before.before.before.before.before.before.before.body.ensures.0) at c.before.before.analyze-loop.ensures))
 
 analyze-for-same-length-2 : (t : ℕ) → analyze-for-lts.Need-same-length-2 (analyze-for-told t) (analyze-for-at t) analyze-for.Post
 analyze-for-same-length-2 t c = search rules
 
 analyze-for-returns-2 : (t : ℕ) → analyze-for-lts.Need-returns-2 (analyze-for-told t) (analyze-for-at t) analyze-for.Post
 unfolding stmt ofStmt stmt_as vars typed_of
-analyze-for-returns-2 t c = first-ok _ _ (sym (ap (typed_of c.before.before.before.before.before.before.before.before.before.before.before.before.before.before.before.before.before.args.img.now) c.before.before.before.before.before.before.enum_told.given.1) ∙ rw (c.before.before.before.before.before.before.before.before.before.before.before.before.past.ensures.0, c.before.before.before.before.before.before.before.before.before.before.before.before.before.body.ensures.0) at c.before.before.before.before.before.before.before.before.analyze-expr.ensures.0) ((rw (c.before.before.before.before.before.before.before.before.before.before.before.before.past.ensures.0, c.before.before.before.before.before.before.before.before.before.before.before.before.before.body.ensures.0) at c.before.before.before.before.before.before.before.before.analyze-expr.ensures.1).all _ (ap (typed_of c.before.before.before.before.before.before.before.before.before.before.before.before.before.before.before.before.before.args.img.now) c.before.before.before.before.before.before.enum_told.given.1)) (first_bad _ (sym (ap (typed_of c.before.before.before.before.before.before.before.before.before.before.before.before.before.before.before.before.before.args.img.now) c.before.u.given.1) ∙ rw (c.before.before.before.before.before.before.before.before.before.before.before.past2.ensures.0, c.before.before.before.before.before.before.before.before.before.before.before.before.past.ensures.0, c.before.before.before.before.before.before.before.before.before.before.before.before.before.body.ensures.0) at c.before.before.before.analyze-expr2.ensures.0))
+analyze-for-returns-2 t c = first_ok _ _ (sym (ap (typed_of c.before.before.before.before.before.before.before.before.before.before.before.before.before.before.before.before.before.args.img.now) c.before.before.before.before.before.before.enum_told.given.1) ∙ rw (c.before.before.before.before.before.before.before.before.before.before.before.before.past.ensures.0, c.before.before.before.before.before.before.before.before.before.before.before.before.before.body.ensures.0) at c.before.before.before.before.before.before.before.before.analyze-expr.ensures.0) ((rw (c.before.before.before.before.before.before.before.before.before.before.before.before.past.ensures.0, c.before.before.before.before.before.before.before.before.before.before.before.before.before.body.ensures.0) at c.before.before.before.before.before.before.before.before.analyze-expr.ensures.1).all _ (ap (typed_of c.before.before.before.before.before.before.before.before.before.before.before.before.before.before.before.before.before.args.img.now) c.before.before.before.before.before.before.enum_told.given.1)) (first_bad _ (sym (ap (typed_of c.before.before.before.before.before.before.before.before.before.before.before.before.before.before.before.before.before.args.img.now) c.before.u.given.1) ∙ rw (c.before.before.before.before.before.before.before.before.before.before.before.past2.ensures.0, c.before.before.before.before.before.before.before.before.before.before.before.before.past.ensures.0, c.before.before.before.before.before.before.before.before.before.before.before.before.before.body.ensures.0) at c.before.before.before.analyze-expr2.ensures.0))
 
 analyze-for-same-length-3 : (t : ℕ) → analyze-for-lts.Need-same-length-3 (analyze-for-told t) (analyze-for-at t) analyze-for.Post
 analyze-for-same-length-3 t c = search rules
@@ -232,13 +232,13 @@ analyze-if-enum-told : (t : ℕ) → analyze-if-lts.Need-enum-told (analyze-if-t
 analyze-if-enum-told t c = search rules
 
 analyze-if-analyze-list-requires : (t : ℕ) → analyze-if-lts.Need-analyze-list-requires (analyze-if-told t) (analyze-if-at t) analyze-if.Post
-analyze-if-analyze-list-requires t c κs = (omega arith, (c.before.before.before.before.before.before.before.before.before.before.before.before.before.before.requires.1.0, rw (c.before.before.before.before.before.before.before.before.before.past.ensures.0, c.before.before.before.before.before.before.before.before.before.before.body.ensures.0) (omega (arith, vars-if (expr_at c.before.before.before.before.before.before.before.before.before.before.before.before.before.before.args.d c.before.before.before.before.before.before.before.before.before.before.before.before.before.before.args.img.now) (stmt_at_lem c.before.before.before.before.before.before.before.before.before.before.before.before.before.before.args.d c.before.before.before.before.before.before.before.before.before.before.before.before.before.before.args.img.now) c.before.before.before.before.before.before.before.before.before.before.before.before.before.before.args.img.now c.before.before.before.before.before.before.before.before.before.before.before.before.before.before.args.at, c.before.before.before.before.before.before.before.before.before.before.before.before.before.before.requires.1.1))))
+analyze-if-analyze-list-requires t c κs = (omega arith, (c.before.before.before.before.before.before.before.before.before.before.before.before.before.before.requires.1.0, rw (c.before.before.before.before.before.before.before.before.before.past.ensures.0, c.before.before.before.before.before.before.before.before.before.before.body.ensures.0) (omega (arith, vars_if (expr_at c.before.before.before.before.before.before.before.before.before.before.before.before.before.before.args.d c.before.before.before.before.before.before.before.before.before.before.before.before.before.before.args.img.now) (stmt_at_lem c.before.before.before.before.before.before.before.before.before.before.before.before.before.before.args.d c.before.before.before.before.before.before.before.before.before.before.before.before.before.before.args.img.now) c.before.before.before.before.before.before.before.before.before.before.before.before.before.before.args.img.now c.before.before.before.before.before.before.before.before.before.before.before.before.before.before.args.at, c.before.before.before.before.before.before.before.before.before.before.before.before.before.before.requires.1.1))))
 
 analyze-if-enum-known-a : (t : ℕ) → analyze-if-lts.Need-enum-known-a (analyze-if-told t) (analyze-if-at t) analyze-if.Post
 analyze-if-enum-known-a t c = search rules
 
 analyze-if-analyze-else-requires : (t : ℕ) → analyze-if-lts.Need-analyze-else-requires (analyze-if-told t) (analyze-if-at t) analyze-if.Post
-analyze-if-analyze-else-requires t c κs = (omega (arith, c.before.before.before.before.before.before.before.before.before.before.before.before.before.before.before.before.before.before.before.before.before.before.requires.0), (c.before.before.before.before.before.before.before.before.before.before.before.before.before.before.before.before.before.before.before.before.before.before.requires.1.0, rw (c.before.before.before.before.before.before.before.before.before.before.before.before.before.before.before.past3.ensures.0, c.before.before.before.before.before.before.before.before.before.before.before.before.before.before.before.before.past2.ensures.0, c.before.before.before.before.before.before.before.before.before.before.before.before.before.before.before.before.before.past.ensures.0, c.before.before.before.before.before.before.before.before.before.before.before.before.before.before.before.before.before.before.body.ensures.0) (omega (arith, vars-if (expr_at c.before.before.before.before.before.before.before.before.before.before.before.before.before.before.before.before.before.before.before.before.before.before.args.d c.before.before.before.before.before.before.before.before.before.before.before.before.before.before.before.before.before.before.before.before.before.before.args.img.now) (stmt_at_lem c.before.before.before.before.before.before.before.before.before.before.before.before.before.before.before.before.before.before.before.before.before.before.args.d c.before.before.before.before.before.before.before.before.before.before.before.before.before.before.before.before.before.before.before.before.before.before.args.img.now) c.before.before.before.before.before.before.before.before.before.before.before.before.before.before.before.before.before.before.before.before.before.before.args.img.now c.before.before.before.before.before.before.before.before.before.before.before.before.before.before.before.before.before.before.before.before.before.before.args.at, c.before.before.before.before.before.before.before.before.before.before.before.before.before.before.before.before.before.before.before.before.before.before.requires.1.1, (in_top (rw (c.before.before.before.before.before.before.before.before.before.before.before.before.before.before.before.before.before.past.ensures.0, c.before.before.before.before.before.before.before.before.before.before.before.before.before.before.before.before.before.before.body.ensures.0) at c.before.before.before.before.before.before.before.analyze-list.ensures) c.before.before.before.a.given.1).1, c.before.before.before.before.before.before.before.analyze-list.ensures.size))))
+analyze-if-analyze-else-requires t c κs = (omega (arith, c.before.before.before.before.before.before.before.before.before.before.before.before.before.before.before.before.before.before.before.before.before.before.requires.0), (c.before.before.before.before.before.before.before.before.before.before.before.before.before.before.before.before.before.before.before.before.before.before.requires.1.0, rw (c.before.before.before.before.before.before.before.before.before.before.before.before.before.before.before.past3.ensures.0, c.before.before.before.before.before.before.before.before.before.before.before.before.before.before.before.before.past2.ensures.0, c.before.before.before.before.before.before.before.before.before.before.before.before.before.before.before.before.before.past.ensures.0, c.before.before.before.before.before.before.before.before.before.before.before.before.before.before.before.before.before.before.body.ensures.0) (omega (arith, vars_if (expr_at c.before.before.before.before.before.before.before.before.before.before.before.before.before.before.before.before.before.before.before.before.before.before.args.d c.before.before.before.before.before.before.before.before.before.before.before.before.before.before.before.before.before.before.before.before.before.before.args.img.now) (stmt_at_lem c.before.before.before.before.before.before.before.before.before.before.before.before.before.before.before.before.before.before.before.before.before.before.args.d c.before.before.before.before.before.before.before.before.before.before.before.before.before.before.before.before.before.before.before.before.before.before.args.img.now) c.before.before.before.before.before.before.before.before.before.before.before.before.before.before.before.before.before.before.before.before.before.before.args.img.now c.before.before.before.before.before.before.before.before.before.before.before.before.before.before.before.before.before.before.before.before.before.before.args.at, c.before.before.before.before.before.before.before.before.before.before.before.before.before.before.before.before.before.before.before.before.before.before.requires.1.1, (in_top (rw (c.before.before.before.before.before.before.before.before.before.before.before.before.before.before.before.before.before.past.ensures.0, c.before.before.before.before.before.before.before.before.before.before.before.before.before.before.before.before.before.before.body.ensures.0) at c.before.before.before.before.before.before.before.analyze-list.ensures) c.before.before.before.a.given.1).1, c.before.before.before.before.before.before.before.analyze-list.ensures.size))))
 
 analyze-if-enum-told-2 : (t : ℕ) → analyze-if-lts.Need-enum-told-2 (analyze-if-told t) (analyze-if-at t) analyze-if.Post
 analyze-if-enum-told-2 t c = search rules
@@ -251,14 +251,14 @@ analyze-if-same-length t c = search rules
 
 analyze-if-returns : (t : ℕ) → analyze-if-lts.Need-returns (analyze-if-told t) (analyze-if-at t) analyze-if.Post
 unfolding stmt ofStmt stmt_as vars typed_of
-analyze-if-returns t c = first-ok _ _ (sym (ap (typed_of c.before.before.before.before.before.before.before.before.before.before.before.before.before.before.before.before.before.before.before.before.before.before.before.before.before.args.img.now) c.before.before.before.before.before.before.before.before.before.before.before.before.before.enum_told.given.1) ∙ rw c.before.before.before.before.before.before.before.before.before.before.before.before.before.before.before.before.before.before.before.before.before.body.ensures.0 at c.before.before.before.before.before.before.before.before.before.before.before.before.before.before.before.analyze-expr.ensures.0) ((rw c.before.before.before.before.before.before.before.before.before.before.before.before.before.before.before.before.before.before.before.before.before.body.ensures.0 at c.before.before.before.before.before.before.before.before.before.before.before.before.before.before.before.analyze-expr.ensures.1).all _ (ap (typed_of c.before.before.before.before.before.before.before.before.before.before.before.before.before.before.before.before.before.before.before.before.before.before.before.before.before.args.img.now) c.before.before.before.before.before.before.before.before.before.before.before.before.before.enum_told.given.1)) (step_then (rw (c.before.before.before.before.before.before.before.before.before.before.before.before.before.before.before.before.before.before.before.before.past.ensures.0, c.before.before.before.before.before.before.before.before.before.before.before.before.before.before.before.before.before.before.before.before.before.body.ensures.0) at c.before.before.before.before.before.before.before.before.before.before.analyze-list.ensures) _ _ c.before.before.before.before.before.before.a.given.1 (rw (c.before.before.before.before.before.before.before.before.before.before.before.before.before.before.before.before.before.before.past3.ensures.0, c.before.before.before.before.before.before.before.before.before.before.before.before.before.before.before.before.before.before.before.past2.ensures.0, c.before.before.before.before.before.before.before.before.before.before.before.before.before.before.before.before.before.before.before.before.past.ensures.0, c.before.before.before.before.before.before.before.before.before.before.before.before.before.before.before.before.before.before.before.before.before.body.ensures.0) at c.before.before.analyze-else.ensures))
+analyze-if-returns t c = first_ok _ _ (sym (ap (typed_of c.before.before.before.before.before.before.before.before.before.before.before.before.before.before.before.before.before.before.before.before.before.before.before.before.before.args.img.now) c.before.before.before.before.before.before.before.before.before.before.before.before.before.enum_told.given.1) ∙ rw c.before.before.before.before.before.before.before.before.before.before.before.before.before.before.before.before.before.before.before.before.before.body.ensures.0 at c.before.before.before.before.before.before.before.before.before.before.before.before.before.before.before.analyze-expr.ensures.0) ((rw c.before.before.before.before.before.before.before.before.before.before.before.before.before.before.before.before.before.before.before.before.before.body.ensures.0 at c.before.before.before.before.before.before.before.before.before.before.before.before.before.before.before.analyze-expr.ensures.1).all _ (ap (typed_of c.before.before.before.before.before.before.before.before.before.before.before.before.before.before.before.before.before.before.before.before.before.before.before.before.before.args.img.now) c.before.before.before.before.before.before.before.before.before.before.before.before.before.enum_told.given.1)) (step_then (rw (c.before.before.before.before.before.before.before.before.before.before.before.before.before.before.before.before.before.before.before.before.past.ensures.0, c.before.before.before.before.before.before.before.before.before.before.before.before.before.before.before.before.before.before.before.before.before.body.ensures.0) at c.before.before.before.before.before.before.before.before.before.before.analyze-list.ensures) _ _ c.before.before.before.before.before.before.a.given.1 (rw (c.before.before.before.before.before.before.before.before.before.before.before.before.before.before.before.before.before.before.past3.ensures.0, c.before.before.before.before.before.before.before.before.before.before.before.before.before.before.before.before.before.before.before.past2.ensures.0, c.before.before.before.before.before.before.before.before.before.before.before.before.before.before.before.before.before.before.before.before.past.ensures.0, c.before.before.before.before.before.before.before.before.before.before.before.before.before.before.before.before.before.before.before.before.before.body.ensures.0) at c.before.before.analyze-else.ensures))
 
 analyze-if-same-length-2 : (t : ℕ) → analyze-if-lts.Need-same-length-2 (analyze-if-told t) (analyze-if-at t) analyze-if.Post
 analyze-if-same-length-2 t c = search rules
 
 analyze-if-returns-2 : (t : ℕ) → analyze-if-lts.Need-returns-2 (analyze-if-told t) (analyze-if-at t) analyze-if.Post
 unfolding stmt ofStmt stmt_as vars typed_of
-analyze-if-returns-2 t c = first-ok _ _ (sym (ap (typed_of c.before.before.before.before.before.before.before.before.before.before.before.before.before.before.before.before.before.before.before.args.img.now) c.before.before.before.before.before.before.before.enum_told.given.1) ∙ rw c.before.before.before.before.before.before.before.before.before.before.before.before.before.before.before.body.ensures.0 at c.before.before.before.before.before.before.before.before.before.analyze-expr.ensures.0) ((rw c.before.before.before.before.before.before.before.before.before.before.before.before.before.before.before.body.ensures.0 at c.before.before.before.before.before.before.before.before.before.analyze-expr.ensures.1).all _ (ap (typed_of c.before.before.before.before.before.before.before.before.before.before.before.before.before.before.before.before.before.before.before.args.img.now) c.before.before.before.before.before.before.before.enum_told.given.1)) (step-bad (rw (c.before.before.before.before.before.before.before.before.before.before.before.before.before.before.past.ensures.0, c.before.before.before.before.before.before.before.before.before.before.before.before.before.before.before.body.ensures.0) at c.before.before.before.before.analyze-list.ensures) _ c.enum-told2.given.1)
+analyze-if-returns-2 t c = first_ok _ _ (sym (ap (typed_of c.before.before.before.before.before.before.before.before.before.before.before.before.before.before.before.before.before.before.before.args.img.now) c.before.before.before.before.before.before.before.enum_told.given.1) ∙ rw c.before.before.before.before.before.before.before.before.before.before.before.before.before.before.before.body.ensures.0 at c.before.before.before.before.before.before.before.before.before.analyze-expr.ensures.0) ((rw c.before.before.before.before.before.before.before.before.before.before.before.before.before.before.before.body.ensures.0 at c.before.before.before.before.before.before.before.before.before.analyze-expr.ensures.1).all _ (ap (typed_of c.before.before.before.before.before.before.before.before.before.before.before.before.before.before.before.before.before.before.before.args.img.now) c.before.before.before.before.before.before.before.enum_told.given.1)) (step_bad (rw (c.before.before.before.before.before.before.before.before.before.before.before.before.before.before.past.ensures.0, c.before.before.before.before.before.before.before.before.before.before.before.before.before.before.before.body.ensures.0) at c.before.before.before.before.analyze-list.ensures) _ c.enum-told2.given.1)
 
 analyze-if-same-length-3 : (t : ℕ) → analyze-if-lts.Need-same-length-3 (analyze-if-told t) (analyze-if-at t) analyze-if.Post
 analyze-if-same-length-3 t c = search rules
@@ -287,7 +287,7 @@ analyze-list-same-length t c = search rules
 
 analyze-list-returns : (t : ℕ) → analyze-list-lts.Need-returns (analyze-list-told t) (analyze-list-at t) analyze-list.Post analyze-list-Inv-loop analyze-list-μ-loop
 unfolding stmts ofStmts vars-stmts
-analyze-list-returns t c = c.before.before.loop.invariant.1.1 _ _ _ (rw (stmts-end (stmt_at_lem c.before.before.before.before.before.before.before.before.args.d c.before.before.before.before.before.before.before.before.args.img.now) c.before.before.before.before.before.before.before.before.args.img.now c.before.before.loop.k c.before.before.loop.p c.before.before.before.before.past.result c.if1.true) (still_ok refl))
+analyze-list-returns t c = c.before.before.loop.invariant.1.1 _ _ _ (rw (stmts_end (stmt_at_lem c.before.before.before.before.before.before.before.before.args.d c.before.before.before.before.before.before.before.before.args.img.now) c.before.before.before.before.before.before.before.before.args.img.now c.before.before.loop.k c.before.before.loop.p c.before.before.before.before.past.result c.if1.true) (still_ok refl))
 
 analyze-list-analyze-stmt-requires : (t : ℕ) → analyze-list-lts.Need-analyze-stmt-requires (analyze-list-told t) (analyze-list-at t) analyze-list.Post analyze-list-Inv-loop analyze-list-μ-loop
 analyze-list-analyze-stmt-requires t c κs = (omega arith, (c.before.before.before.before.before.before.before.before.before.before.requires.1.0, omega (arith, vars_more (stmt_at_lem c.before.before.before.before.before.before.before.before.before.before.args.d c.before.before.before.before.before.before.before.before.before.before.args.img.now) c.before.before.before.before.before.before.before.before.before.before.args.img.now c.before.before.before.before.loop.k c.before.before.before.before.loop.p c.before.before.before.before.before.before.past.result c.before.before.before.loop-test.true c.before.before.if1.false, c.before.before.before.before.loop.invariant.0)))
@@ -306,7 +306,7 @@ analyze-list-loop-less t c = search rules
 
 analyze-list-loop-again : (t : ℕ) → analyze-list-lts.Need-loop-preserved (analyze-list-told t) (analyze-list-at t) analyze-list.Post analyze-list-Inv-loop analyze-list-μ-loop
 unfolding stmts ofStmts vars-stmts
-analyze-list-loop-again t c = (rw c.past2.ensures.0 (omega (arith, vars_more (stmt_at_lem c.before.before.before.before.before.before.before.before.before.before.before.before.before.before.before.before.before.args.d c.before.before.before.before.before.before.before.before.before.before.before.before.before.before.before.before.before.args.img.now) c.before.before.before.before.before.before.before.before.before.before.before.before.before.before.before.before.before.args.img.now c.before.before.before.before.before.before.before.before.before.before.before.loop.k c.before.before.before.before.before.before.before.before.before.before.before.loop.p c.before.before.before.before.before.before.before.before.before.before.before.before.before.past.result c.before.before.before.before.before.before.before.before.before.before.loop-test.true c.before.before.before.before.before.before.before.before.before.if1.false, c.before.before.before.before.before.before.before.before.before.before.before.loop.invariant.0, (in_top c.before.before.before.before.before.before.analyze-stmt.ensures c.before.before.a.given.1).1, c.before.before.before.before.before.before.analyze-stmt.ensures.size)), (c.before.before.before.before.before.before.analyze-stmt.ensures.size ∙ c.before.before.before.before.before.before.before.before.before.before.before.loop.invariant.1.0, λ e2 M r s. c.before.before.before.before.before.before.before.before.before.before.before.loop.invariant.1.1 e2 M r (rw (stmts-more (stmt_at_lem c.before.before.before.before.before.before.before.before.before.before.before.before.before.before.before.before.before.args.d c.before.before.before.before.before.before.before.before.before.before.before.before.before.before.before.before.before.args.img.now) c.before.before.before.before.before.before.before.before.before.before.before.before.before.before.before.before.before.args.img.now c.before.before.before.before.before.before.before.before.before.before.before.loop.k c.before.before.before.before.before.before.before.before.before.before.before.loop.p c.before.before.before.before.before.before.before.before.before.before.before.before.before.past.result c.before.before.before.before.before.before.before.before.before.before.loop-test.true c.before.before.before.before.before.before.before.before.before.if1.false) (step_then c.before.before.before.before.before.before.analyze-stmt.ensures _ _ c.before.before.a.given.1 (rw c.past2.ensures.0 at s)))))
+analyze-list-loop-again t c = (rw c.past2.ensures.0 (omega (arith, vars_more (stmt_at_lem c.before.before.before.before.before.before.before.before.before.before.before.before.before.before.before.before.before.args.d c.before.before.before.before.before.before.before.before.before.before.before.before.before.before.before.before.before.args.img.now) c.before.before.before.before.before.before.before.before.before.before.before.before.before.before.before.before.before.args.img.now c.before.before.before.before.before.before.before.before.before.before.before.loop.k c.before.before.before.before.before.before.before.before.before.before.before.loop.p c.before.before.before.before.before.before.before.before.before.before.before.before.before.past.result c.before.before.before.before.before.before.before.before.before.before.loop-test.true c.before.before.before.before.before.before.before.before.before.if1.false, c.before.before.before.before.before.before.before.before.before.before.before.loop.invariant.0, (in_top c.before.before.before.before.before.before.analyze-stmt.ensures c.before.before.a.given.1).1, c.before.before.before.before.before.before.analyze-stmt.ensures.size)), (c.before.before.before.before.before.before.analyze-stmt.ensures.size ∙ c.before.before.before.before.before.before.before.before.before.before.before.loop.invariant.1.0, λ e2 M r s. c.before.before.before.before.before.before.before.before.before.before.before.loop.invariant.1.1 e2 M r (rw (stmts_more (stmt_at_lem c.before.before.before.before.before.before.before.before.before.before.before.before.before.before.before.before.before.args.d c.before.before.before.before.before.before.before.before.before.before.before.before.before.before.before.before.before.args.img.now) c.before.before.before.before.before.before.before.before.before.before.before.before.before.before.before.before.before.args.img.now c.before.before.before.before.before.before.before.before.before.before.before.loop.k c.before.before.before.before.before.before.before.before.before.before.before.loop.p c.before.before.before.before.before.before.before.before.before.before.before.before.before.past.result c.before.before.before.before.before.before.before.before.before.before.loop-test.true c.before.before.before.before.before.before.before.before.before.if1.false) (step_then c.before.before.before.before.before.before.analyze-stmt.ensures _ _ c.before.before.a.given.1 (rw c.past2.ensures.0 at s)))))
 
 analyze-list-enum-told : (t : ℕ) → analyze-list-lts.Need-enum-told (analyze-list-told t) (analyze-list-at t) analyze-list.Post analyze-list-Inv-loop analyze-list-μ-loop
 analyze-list-enum-told t c = search rules
@@ -316,14 +316,14 @@ analyze-list-same-length-2 t c = search rules
 
 analyze-list-returns-2 : (t : ℕ) → analyze-list-lts.Need-returns-2 (analyze-list-told t) (analyze-list-at t) analyze-list.Post analyze-list-Inv-loop analyze-list-μ-loop
 unfolding stmts ofStmts vars-stmts
-analyze-list-returns-2 t c = c.before.before.before.before.before.before.before.before.before.loop.invariant.1.1 _ _ _ (rw (stmts-more (stmt_at_lem c.before.before.before.before.before.before.before.before.before.before.before.before.before.before.before.args.d c.before.before.before.before.before.before.before.before.before.before.before.before.before.before.before.args.img.now) c.before.before.before.before.before.before.before.before.before.before.before.before.before.before.before.args.img.now c.before.before.before.before.before.before.before.before.before.loop.k c.before.before.before.before.before.before.before.before.before.loop.p c.before.before.before.before.before.before.before.before.before.before.before.past.result c.before.before.before.before.before.before.before.before.loop-test.true c.before.before.before.before.before.before.before.if1.false) (step-bad c.before.before.before.before.analyze-stmt.ensures _ c.enum_told.given.1))
+analyze-list-returns-2 t c = c.before.before.before.before.before.before.before.before.before.loop.invariant.1.1 _ _ _ (rw (stmts_more (stmt_at_lem c.before.before.before.before.before.before.before.before.before.before.before.before.before.before.before.args.d c.before.before.before.before.before.before.before.before.before.before.before.before.before.before.before.args.img.now) c.before.before.before.before.before.before.before.before.before.before.before.before.before.before.before.args.img.now c.before.before.before.before.before.before.before.before.before.loop.k c.before.before.before.before.before.before.before.before.before.loop.p c.before.before.before.before.before.before.before.before.before.before.before.past.result c.before.before.before.before.before.before.before.before.loop-test.true c.before.before.before.before.before.before.before.if1.false) (step_bad c.before.before.before.before.analyze-stmt.ensures _ c.enum_told.given.1))
 
 analyze-list-same-length-3 : (t : ℕ) → analyze-list-lts.Need-same-length-3 (analyze-list-told t) (analyze-list-at t) analyze-list.Post analyze-list-Inv-loop analyze-list-μ-loop
 analyze-list-same-length-3 t c = search rules
 
 analyze-list-returns-3 : (t : ℕ) → analyze-list-lts.Need-returns-3 (analyze-list-told t) (analyze-list-at t) analyze-list.Post analyze-list-Inv-loop analyze-list-μ-loop
 unfolding stmts ofStmts vars-stmts
-analyze-list-returns-3 t c = c.before.loop.invariant.1.1 _ _ _ (rw (stmts-zero (stmt_at_lem c.before.before.before.before.before.before.before.args.d c.before.before.before.before.before.before.before.args.img.now) c.before.before.before.before.before.before.before.args.img.now c.before.loop.k c.before.loop.p c.before.before.before.past.result c.loop-test.false) (still_ok refl))
+analyze-list-returns-3 t c = c.before.loop.invariant.1.1 _ _ _ (rw (stmts_zero (stmt_at_lem c.before.before.before.before.before.before.before.args.d c.before.before.before.before.before.before.before.args.img.now) c.before.before.before.before.before.before.before.args.img.now c.before.loop.k c.before.loop.p c.before.before.before.past.result c.loop-test.false) (still_ok refl))
 
 analyze-loop-push-requires : (t : ℕ) → analyze-loop-lts.Need-push-requires (analyze-loop-told t) (analyze-loop-at t) analyze-loop.Post
 analyze-loop-push-requires t c κs = (omega (arith, c.before.before.before.before.requires.1.1), c.before.before.before.before.requires.1.0.small)
@@ -363,7 +363,7 @@ analyze-stmt-sub-analyze-let t c = search rules
 
 analyze-stmt-analyze-let-requires : (t : ℕ) → analyze-stmt-lts.Need-analyze-let-requires (analyze-stmt-told t) (analyze-stmt-at t) analyze-stmt.Post
 unfolding stmt_kind_of pick
-analyze-stmt-analyze-let-requires t c κs = (c.before.before.before.before.before.before.before.before.requires.1.0, omega (arith, rw (stmt_kind c.before.before.before.before.before.before.before.before.args.d c.before.before.before.before.before.before.before.before.args.img.now c.before.before.before.before.before.before.before.before.args.at c.before.before.before.kind.result sLet c.before.before.before.before.if1.false c.before.before.before.kind.ensures.0 (ap stmt_kind_of c.before.before.match.keys1)) at c.before.before.before.before.before.before.before.before.requires.1.1, vars-let (expr_at (c.before.before.before.before.before.before.before.before.args.d - 1) c.before.before.before.before.before.before.before.before.args.img.now) (stmt_at_lem (c.before.before.before.before.before.before.before.before.args.d - 1) c.before.before.before.before.before.before.before.before.args.img.now) c.before.before.before.before.before.before.before.before.args.img.now c.before.before.before.before.before.before.before.before.args.at))
+analyze-stmt-analyze-let-requires t c κs = (c.before.before.before.before.before.before.before.before.requires.1.0, omega (arith, rw (stmt_kind c.before.before.before.before.before.before.before.before.args.d c.before.before.before.before.before.before.before.before.args.img.now c.before.before.before.before.before.before.before.before.args.at c.before.before.before.kind.result sLet c.before.before.before.before.if1.false c.before.before.before.kind.ensures.0 (ap stmt_kind_of c.before.before.match.keys1)) at c.before.before.before.before.before.before.before.before.requires.1.1, vars_let (expr_at (c.before.before.before.before.before.before.before.before.args.d - 1) c.before.before.before.before.before.before.before.before.args.img.now) (stmt_at_lem (c.before.before.before.before.before.before.before.before.args.d - 1) c.before.before.before.before.before.before.before.before.args.img.now) c.before.before.before.before.before.before.before.before.args.img.now c.before.before.before.before.before.before.before.before.args.at))
 
 analyze-stmt-sub-analyze-if : (t : ℕ) → analyze-stmt-lts.Need-overflow-sub-analyze-if (analyze-stmt-told t) (analyze-stmt-at t) analyze-stmt.Post
 analyze-stmt-sub-analyze-if t c = search rules
@@ -439,7 +439,7 @@ analyze-while-past-requires : (t : ℕ) → analyze-while-lts.Need-past-requires
 analyze-while-past-requires t c κs = search rules
 
 analyze-while-analyze-list-requires : (t : ℕ) → analyze-while-lts.Need-analyze-list-requires (analyze-while-told t) (analyze-while-at t) analyze-while.Post
-analyze-while-analyze-list-requires t c κs = (omega arith, (c.before.before.before.before.before.before.before.before.before.before.before.before.requires.1.0, rw (c.past.ensures.0, c.before.before.before.before.before.before.before.before.body.ensures.0) (omega (arith, vars-while (expr_at c.before.before.before.before.before.before.before.before.before.before.before.before.args.d c.before.before.before.before.before.before.before.before.before.before.before.before.args.img.now) (stmt_at_lem c.before.before.before.before.before.before.before.before.before.before.before.before.args.d c.before.before.before.before.before.before.before.before.before.before.before.before.args.img.now) c.before.before.before.before.before.before.before.before.before.before.before.before.args.img.now c.before.before.before.before.before.before.before.before.before.before.before.before.args.at, c.before.before.before.before.before.before.before.before.before.before.before.before.requires.1.1))))
+analyze-while-analyze-list-requires t c κs = (omega arith, (c.before.before.before.before.before.before.before.before.before.before.before.before.requires.1.0, rw (c.past.ensures.0, c.before.before.before.before.before.before.before.before.body.ensures.0) (omega (arith, vars_while (expr_at c.before.before.before.before.before.before.before.before.before.before.before.before.args.d c.before.before.before.before.before.before.before.before.before.before.before.before.args.img.now) (stmt_at_lem c.before.before.before.before.before.before.before.before.before.before.before.before.args.d c.before.before.before.before.before.before.before.before.before.before.before.before.args.img.now) c.before.before.before.before.before.before.before.before.before.before.before.before.args.img.now c.before.before.before.before.before.before.before.before.before.before.before.before.args.at, c.before.before.before.before.before.before.before.before.before.before.before.before.requires.1.1))))
 
 analyze-while-enum-known-t : (t : ℕ) → analyze-while-lts.Need-enum-known-t (analyze-while-told t) (analyze-while-at t) analyze-while.Post
 analyze-while-enum-known-t t c = search rules
@@ -449,7 +449,7 @@ analyze-while-same-length t c = search rules
 
 analyze-while-returns : (t : ℕ) → analyze-while-lts.Need-returns (analyze-while-told t) (analyze-while-at t) analyze-while.Post
 unfolding stmt ofStmt stmt_as vars typed_of
-analyze-while-returns t c = first-ok _ _ (sym (ap (typed_of c.before.before.before.before.before.before.before.before.before.before.before.before.before.before.before.args.img.now) c.before.before.before.before.before.before.enum_told.given.1) ∙ rw c.before.before.before.before.before.before.before.before.before.before.before.body.ensures.0 at c.before.before.before.before.before.before.before.before.analyze-expr.ensures.0) ((rw c.before.before.before.before.before.before.before.before.before.before.before.body.ensures.0 at c.before.before.before.before.before.before.before.before.analyze-expr.ensures.1).all _ (ap (typed_of c.before.before.before.before.before.before.before.before.before.before.before.before.before.before.before.args.img.now) c.before.before.before.before.before.before.enum_told.given.1)) (rw (c.before.before.before.past.ensures.0, c.before.before.before.before.before.before.before.before.before.before.before.body.ensures.0) at c.before.before.analyze-list.ensures)
+analyze-while-returns t c = first_ok _ _ (sym (ap (typed_of c.before.before.before.before.before.before.before.before.before.before.before.before.before.before.before.args.img.now) c.before.before.before.before.before.before.enum_told.given.1) ∙ rw c.before.before.before.before.before.before.before.before.before.before.before.body.ensures.0 at c.before.before.before.before.before.before.before.before.analyze-expr.ensures.0) ((rw c.before.before.before.before.before.before.before.before.before.before.before.body.ensures.0 at c.before.before.before.before.before.before.before.before.analyze-expr.ensures.1).all _ (ap (typed_of c.before.before.before.before.before.before.before.before.before.before.before.before.before.before.before.args.img.now) c.before.before.before.before.before.before.enum_told.given.1)) (rw (c.before.before.before.past.ensures.0, c.before.before.before.before.before.before.before.before.before.before.before.body.ensures.0) at c.before.before.analyze-list.ensures)
 
 analyze-while-same-length-2 : (t : ℕ) → analyze-while-lts.Need-same-length-2 (analyze-while-told t) (analyze-while-at t) analyze-while.Post
 analyze-while-same-length-2 t c = search rules

@@ -6,7 +6,7 @@ use Rattle.notes.specs.Notes.{written}
 use Rattle.notes.specs.Wrote.{refused, wrote}
 use Prim.Native.Nat.{◌-◌, ◌≤◌}
 use Rattle.lookup.specs.Answers.{checked_of}
-use Rattle.sema.proofs.Functions.{accesses_from, from, from-bad, from-done, from_next, from_start, names_fit, notes-done, notes-next, notes-start}
+use Rattle.sema.proofs.Functions.{accesses_from, from, from-bad, from-done, from_next, from_start, names_fit, notes_done, notes_next, notes_start}
 use Rattle.sema.specs.Entry.{analysis}
 use Rattle.tables.specs.Listed.{functions_in}
 use borrow.Author.Rules.{rules}
@@ -26,7 +26,7 @@ function-count-requires : tie.Need-function-count-requires invariant-loop decrea
 function-count-requires c κs = search rules
 
 loop-holds : tie.Need-loop-init invariant-loop decreases-loop
-loop-holds c = (omega arith, (refl, (from_start c.before.before.before.before.args.img.now, notes-start c.before.before.before.before.args.img.now _)))
+loop-holds c = (omega arith, (refl, (from_start c.before.before.before.before.args.img.now, notes_start c.before.before.before.before.args.img.now _)))
 
 function-place-requires : tie.Need-function-place-requires invariant-loop decreases-loop
 function-place-requires c κs = search rules
@@ -45,7 +45,7 @@ loop-less c = omega (arith, c.before.before.before.before.before.before.before.b
 
 loop-again : tie.Need-loop-preserved invariant-loop decreases-loop
 unfolding checked_of
-loop-again c = (omega (arith, c.before.before.before.before.before.before.before.before.loop-test.true, c.before.before.before.before.before.before.before.before.before.before.function-count.ensures c.before.before.before.before.before.before.before.before.before.before.before.before.before.before.args.img.now c.before.before.before.before.before.before.before.before.before.before.before.before.before.before.requires.0), (c.before.before.before.before.analyze-function.ensures.1.0 ∙ c.before.before.before.before.before.before.before.before.before.loop.invariant.1.0, (c.before.before.before.before.before.before.before.before.before.loop.invariant.1.1.0 ∙ from_next c.before.before.before.before.before.before.before.before.before.before.before.before.before.before.args.img.now c.before.before.before.before.before.before.before.before.before.loop.i (omega (arith, c.before.before.before.before.before.before.before.before.loop-test.true, c.before.before.before.before.before.before.before.before.before.before.function-count.ensures c.before.before.before.before.before.before.before.before.before.before.before.before.before.before.args.img.now c.before.before.before.before.before.before.before.before.before.before.before.before.before.before.requires.0)) (sym (ap (checked_of c.before.before.before.before.before.before.before.before.before.before.before.before.before.before.args.img.now) c.enum_told.given.1) ∙ rw (c.before.before.before.before.before.before.before.function-place.ensures c.before.before.before.before.before.before.before.before.before.before.before.before.before.before.args.img.now c.before.before.before.before.before.before.before.before.before.before.before.before.before.before.requires.0 (omega (arith, c.before.before.before.before.before.before.before.before.loop-test.true, c.before.before.before.before.before.before.before.before.before.before.function-count.ensures c.before.before.before.before.before.before.before.before.before.before.before.before.before.before.args.img.now c.before.before.before.before.before.before.before.before.before.before.before.before.before.before.requires.0))) at c.before.before.before.before.analyze-function.ensures.0), c.before.before.before.before.before.before.before.before.before.loop.invariant.1.1.1 ∙ notes-next c.before.before.before.before.before.before.before.before.before.before.before.before.before.before.args.img.now _ c.before.before.before.before.before.before.before.before.before.loop.i (omega (arith, c.before.before.before.before.before.before.before.before.loop-test.true, c.before.before.before.before.before.before.before.before.before.before.function-count.ensures c.before.before.before.before.before.before.before.before.before.before.before.before.before.before.args.img.now c.before.before.before.before.before.before.before.before.before.before.before.before.before.before.requires.0)) ((rw (c.before.before.before.before.before.before.before.function-place.ensures c.before.before.before.before.before.before.before.before.before.before.before.before.before.before.args.img.now c.before.before.before.before.before.before.before.before.before.before.before.before.before.before.requires.0 (omega (arith, c.before.before.before.before.before.before.before.before.loop-test.true, c.before.before.before.before.before.before.before.before.before.before.function-count.ensures c.before.before.before.before.before.before.before.before.before.before.before.before.before.before.args.img.now c.before.before.before.before.before.before.before.before.before.before.before.before.before.before.requires.0))) at c.before.before.before.before.analyze-function.ensures.1.1).all _ (ap (checked_of c.before.before.before.before.before.before.before.before.before.before.before.before.before.before.args.img.now) c.enum_told.given.1)))))
+loop-again c = (omega (arith, c.before.before.before.before.before.before.before.before.loop-test.true, c.before.before.before.before.before.before.before.before.before.before.function-count.ensures c.before.before.before.before.before.before.before.before.before.before.before.before.before.before.args.img.now c.before.before.before.before.before.before.before.before.before.before.before.before.before.before.requires.0), (c.before.before.before.before.analyze-function.ensures.1.0 ∙ c.before.before.before.before.before.before.before.before.before.loop.invariant.1.0, (c.before.before.before.before.before.before.before.before.before.loop.invariant.1.1.0 ∙ from_next c.before.before.before.before.before.before.before.before.before.before.before.before.before.before.args.img.now c.before.before.before.before.before.before.before.before.before.loop.i (omega (arith, c.before.before.before.before.before.before.before.before.loop-test.true, c.before.before.before.before.before.before.before.before.before.before.function-count.ensures c.before.before.before.before.before.before.before.before.before.before.before.before.before.before.args.img.now c.before.before.before.before.before.before.before.before.before.before.before.before.before.before.requires.0)) (sym (ap (checked_of c.before.before.before.before.before.before.before.before.before.before.before.before.before.before.args.img.now) c.enum_told.given.1) ∙ rw (c.before.before.before.before.before.before.before.function-place.ensures c.before.before.before.before.before.before.before.before.before.before.before.before.before.before.args.img.now c.before.before.before.before.before.before.before.before.before.before.before.before.before.before.requires.0 (omega (arith, c.before.before.before.before.before.before.before.before.loop-test.true, c.before.before.before.before.before.before.before.before.before.before.function-count.ensures c.before.before.before.before.before.before.before.before.before.before.before.before.before.before.args.img.now c.before.before.before.before.before.before.before.before.before.before.before.before.before.before.requires.0))) at c.before.before.before.before.analyze-function.ensures.0), c.before.before.before.before.before.before.before.before.before.loop.invariant.1.1.1 ∙ notes_next c.before.before.before.before.before.before.before.before.before.before.before.before.before.before.args.img.now _ c.before.before.before.before.before.before.before.before.before.loop.i (omega (arith, c.before.before.before.before.before.before.before.before.loop-test.true, c.before.before.before.before.before.before.before.before.before.before.function-count.ensures c.before.before.before.before.before.before.before.before.before.before.before.before.before.before.args.img.now c.before.before.before.before.before.before.before.before.before.before.before.before.before.before.requires.0)) ((rw (c.before.before.before.before.before.before.before.function-place.ensures c.before.before.before.before.before.before.before.before.before.before.before.before.before.before.args.img.now c.before.before.before.before.before.before.before.before.before.before.before.before.before.before.requires.0 (omega (arith, c.before.before.before.before.before.before.before.before.loop-test.true, c.before.before.before.before.before.before.before.before.before.before.function-count.ensures c.before.before.before.before.before.before.before.before.before.before.before.before.before.before.args.img.now c.before.before.before.before.before.before.before.before.before.before.before.before.before.before.requires.0))) at c.before.before.before.before.analyze-function.ensures.1.1).all _ (ap (checked_of c.before.before.before.before.before.before.before.before.before.before.before.before.before.before.args.img.now) c.enum_told.given.1)))))
 
 enum-told-2 : tie.Need-enum-told-2 invariant-loop decreases-loop
 enum-told-2 c = search rules
@@ -62,7 +62,7 @@ same-length-2 c = search rules
 
 returns-2 : tie.Need-returns-2 invariant-loop decreases-loop
 unfolding checked_of
-returns-2 c = (from-done c.before.before.before.before.before.before.args.img.now c.before.loop.i (omega (arith, c.loop-test.false, c.before.before.function-count.ensures c.before.before.before.before.before.before.args.img.now c.before.before.before.before.before.before.requires.0)) ∙ sym c.before.loop.invariant.1.1.0, wrote (contract_at c.before.before.before.before.before.before.args.img.now) _ (sym (c.before.loop.invariant.1.1.1 ∙ notes-done c.before.before.before.before.before.before.args.img.now _ c.before.loop.i (omega (arith, c.loop-test.false, c.before.before.function-count.ensures c.before.before.before.before.before.before.args.img.now c.before.before.before.before.before.before.requires.0)))))
+returns-2 c = (from-done c.before.before.before.before.before.before.args.img.now c.before.loop.i (omega (arith, c.loop-test.false, c.before.before.function-count.ensures c.before.before.before.before.before.before.args.img.now c.before.before.before.before.before.before.requires.0)) ∙ sym c.before.loop.invariant.1.1.0, wrote (contract_at c.before.before.before.before.before.before.args.img.now) _ (sym (c.before.loop.invariant.1.1.1 ∙ notes_done c.before.before.before.before.before.before.args.img.now _ c.before.loop.i (omega (arith, c.loop-test.false, c.before.before.function-count.ensures c.before.before.before.before.before.before.args.img.now c.before.before.before.before.before.before.requires.0)))))
 
 pub analyse-checked-spec : {M : Type 1} → statement M
 analyse-checked-spec =

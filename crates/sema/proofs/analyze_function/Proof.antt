@@ -1,10 +1,10 @@
 -- analyze_function meets its contract.
 -- Assumes nothing.
 use Rattle.notes.specs.Wrote.{refused, wrote}
-use Rattle.rules.specs.Meant.{ofFunction}
+use Rattle.rules.specs.Meant.{of_function}
 use Rattle.lookup.specs.Answers.{checked_of, env_of}
 use Rattle.rules.specs.Read.{contract_at, fields_at, function_at}
-use Rattle.sema.proofs.Bodies.{function-bad, function-ok, names_at}
+use Rattle.sema.proofs.Bodies.{function_bad, function_ok, names_at}
 use Rattle.sema.proofs.Runs.{answered, stopped, told}
 use borrow.Author.Rules.{rules}
 use mathlib.Core.Path.{◌∙◌, refl}
@@ -46,15 +46,15 @@ same_length : tie.Need-same-length
 same_length c = search rules
 
 returns : tie.Need-returns
-unfolding checked_of ofFunction function_at fields_at env_of
-returns c = (function-ok (contract_at c.before.before.before.before.before.before.before.before.before.before.before.before.before.before.before.before.before.before.before.before.args.img.now) (function_at c.before.before.before.before.before.before.before.before.before.before.before.before.before.before.before.before.before.before.before.before.args.img.now c.before.before.before.before.before.before.before.before.before.before.before.before.before.before.before.before.before.before.before.before.args.p) (rw (c.before.before.before.before.before.before.before.user-ret.ensures, c.before.before.before.before.before.before.before.before.before.before.before.before.past4.ensures.0, c.before.before.before.before.before.before.before.before.before.before.before.before.before.past3.ensures.0, c.before.before.before.before.before.before.before.before.before.before.before.before.before.before.past2.ensures.0, c.before.before.before.before.before.before.before.before.before.before.before.before.before.before.before.past.ensures.0, c.before.before.before.before.before.before.before.before.before.before.before.before.before.before.before.before.body.ensures.0, (rw (c.before.before.before.before.before.before.before.before.before.before.before.before.before.before.before.past.ensures.0, c.before.before.before.before.before.before.before.before.before.before.before.before.before.before.before.before.body.ensures.0) at c.before.before.before.before.before.before.before.before.before.before.push-params.ensures).more) at (answered c.before.before.before.before.analyze-list.ensures c.enum_told.given.1)), (c.before.before.before.before.analyze-list.ensures.size ∙ c.before.before.before.before.before.before.before.before.before.before.push-params.ensures.size, wrote (contract_at c.before.before.before.before.before.before.before.before.before.before.before.before.before.before.before.before.before.before.before.before.args.img.now) _ (rw (c.before.before.before.before.before.before.before.user-ret.ensures, c.before.before.before.before.before.before.before.before.before.before.before.before.past4.ensures.0, c.before.before.before.before.before.before.before.before.before.before.before.before.before.past3.ensures.0, c.before.before.before.before.before.before.before.before.before.before.before.before.before.before.past2.ensures.0, c.before.before.before.before.before.before.before.before.before.before.before.before.before.before.before.past.ensures.0, c.before.before.before.before.before.before.before.before.before.before.before.before.before.before.before.before.body.ensures.0, (rw (c.before.before.before.before.before.before.before.before.before.before.before.before.before.before.before.past.ensures.0, c.before.before.before.before.before.before.before.before.before.before.before.before.before.before.before.before.body.ensures.0) at c.before.before.before.before.before.before.before.before.before.before.push-params.ensures).more) at (told c.before.before.before.before.analyze-list.ensures c.enum_told.given.1))))
+unfolding checked_of of_function function_at fields_at env_of
+returns c = (function_ok (contract_at c.before.before.before.before.before.before.before.before.before.before.before.before.before.before.before.before.before.before.before.before.args.img.now) (function_at c.before.before.before.before.before.before.before.before.before.before.before.before.before.before.before.before.before.before.before.before.args.img.now c.before.before.before.before.before.before.before.before.before.before.before.before.before.before.before.before.before.before.before.before.args.p) (rw (c.before.before.before.before.before.before.before.user-ret.ensures, c.before.before.before.before.before.before.before.before.before.before.before.before.past4.ensures.0, c.before.before.before.before.before.before.before.before.before.before.before.before.before.past3.ensures.0, c.before.before.before.before.before.before.before.before.before.before.before.before.before.before.past2.ensures.0, c.before.before.before.before.before.before.before.before.before.before.before.before.before.before.before.past.ensures.0, c.before.before.before.before.before.before.before.before.before.before.before.before.before.before.before.before.body.ensures.0, (rw (c.before.before.before.before.before.before.before.before.before.before.before.before.before.before.before.past.ensures.0, c.before.before.before.before.before.before.before.before.before.before.before.before.before.before.before.before.body.ensures.0) at c.before.before.before.before.before.before.before.before.before.before.push-params.ensures).more) at (answered c.before.before.before.before.analyze-list.ensures c.enum_told.given.1)), (c.before.before.before.before.analyze-list.ensures.size ∙ c.before.before.before.before.before.before.before.before.before.before.push-params.ensures.size, wrote (contract_at c.before.before.before.before.before.before.before.before.before.before.before.before.before.before.before.before.before.before.before.before.args.img.now) _ (rw (c.before.before.before.before.before.before.before.user-ret.ensures, c.before.before.before.before.before.before.before.before.before.before.before.before.past4.ensures.0, c.before.before.before.before.before.before.before.before.before.before.before.before.before.past3.ensures.0, c.before.before.before.before.before.before.before.before.before.before.before.before.before.before.past2.ensures.0, c.before.before.before.before.before.before.before.before.before.before.before.before.before.before.before.past.ensures.0, c.before.before.before.before.before.before.before.before.before.before.before.before.before.before.before.before.body.ensures.0, (rw (c.before.before.before.before.before.before.before.before.before.before.before.before.before.before.before.past.ensures.0, c.before.before.before.before.before.before.before.before.before.before.before.before.before.before.before.before.body.ensures.0) at c.before.before.before.before.before.before.before.before.before.before.push-params.ensures).more) at (told c.before.before.before.before.analyze-list.ensures c.enum_told.given.1))))
 
 same-length-2 : tie.Need-same-length-2
 same-length-2 c = search rules
 
 returns-2 : tie.Need-returns-2
 unfolding checked_of function_at fields_at env_of
-returns-2 c = (function-bad (contract_at c.before.before.before.before.before.before.before.before.before.before.before.before.before.before.before.before.before.before.before.before.before.args.img.now) (function_at c.before.before.before.before.before.before.before.before.before.before.before.before.before.before.before.before.before.before.before.before.before.args.img.now c.before.before.before.before.before.before.before.before.before.before.before.before.before.before.before.before.before.before.before.before.before.args.p) (rw (c.before.before.before.before.before.before.before.before.user-ret.ensures, c.before.before.before.before.before.before.before.before.before.before.before.before.before.past4.ensures.0, c.before.before.before.before.before.before.before.before.before.before.before.before.before.before.past3.ensures.0, c.before.before.before.before.before.before.before.before.before.before.before.before.before.before.before.past2.ensures.0, c.before.before.before.before.before.before.before.before.before.before.before.before.before.before.before.before.past.ensures.0, c.before.before.before.before.before.before.before.before.before.before.before.before.before.before.before.before.before.body.ensures.0, (rw (c.before.before.before.before.before.before.before.before.before.before.before.before.before.before.before.before.past.ensures.0, c.before.before.before.before.before.before.before.before.before.before.before.before.before.before.before.before.before.body.ensures.0) at c.before.before.before.before.before.before.before.before.before.before.before.push-params.ensures).more) at (stopped c.before.before.before.before.before.analyze-list.ensures c.before.a.given.1)), (c.before.before.before.before.before.analyze-list.ensures.size ∙ c.before.before.before.before.before.before.before.before.before.before.before.push-params.ensures.size, refused (contract_at c.before.before.before.before.before.before.before.before.before.before.before.before.before.before.before.before.before.before.before.before.before.args.img.now) _ _ refl))
+returns-2 c = (function_bad (contract_at c.before.before.before.before.before.before.before.before.before.before.before.before.before.before.before.before.before.before.before.before.before.args.img.now) (function_at c.before.before.before.before.before.before.before.before.before.before.before.before.before.before.before.before.before.before.before.before.before.args.img.now c.before.before.before.before.before.before.before.before.before.before.before.before.before.before.before.before.before.before.before.before.before.args.p) (rw (c.before.before.before.before.before.before.before.before.user-ret.ensures, c.before.before.before.before.before.before.before.before.before.before.before.before.before.past4.ensures.0, c.before.before.before.before.before.before.before.before.before.before.before.before.before.before.past3.ensures.0, c.before.before.before.before.before.before.before.before.before.before.before.before.before.before.before.past2.ensures.0, c.before.before.before.before.before.before.before.before.before.before.before.before.before.before.before.before.past.ensures.0, c.before.before.before.before.before.before.before.before.before.before.before.before.before.before.before.before.before.body.ensures.0, (rw (c.before.before.before.before.before.before.before.before.before.before.before.before.before.before.before.before.past.ensures.0, c.before.before.before.before.before.before.before.before.before.before.before.before.before.before.before.before.before.body.ensures.0) at c.before.before.before.before.before.before.before.before.before.before.before.push-params.ensures).more) at (stopped c.before.before.before.before.before.analyze-list.ensures c.before.a.given.1)), (c.before.before.before.before.before.analyze-list.ensures.size ∙ c.before.before.before.before.before.before.before.before.before.before.before.push-params.ensures.size, refused (contract_at c.before.before.before.before.before.before.before.before.before.before.before.before.before.before.before.before.before.before.before.before.before.args.img.now) _ _ refl))
 
 pub analyze-function-spec : {M : Type 1} → statement M
 analyze-function-spec =

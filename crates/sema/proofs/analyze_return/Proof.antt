@@ -6,7 +6,7 @@ use Rattle.lookup.specs.Answers.{ty_of, typed_of}
 use Rattle.rules.specs.Analyse.{stmt}
 use Rattle.rules.specs.Read.{expr_at, stmt_at_lem}
 use Rattle.sema.proofs.Runs.{first_bad, last_ok}
-use Rattle.sema.proofs.Trees.{return-not, return-there}
+use Rattle.sema.proofs.Trees.{return_not, return_there}
 use mathlib.Core.Path.{◌∙◌, ap, sym}
 use borrow.Author.Rules.{rules}
 use Rattle.sema.proofs.analyze_return.Statement.{statement}
@@ -35,15 +35,15 @@ returned-requires-2 c κs = search rules
 
 returns : tie.Need-returns
 unfolding stmt ofStmt vars typed_of
-returns c = rw (return-there c.before.before.before.before.before.before.before.before.before.before.before.before.args.img.now c.before.before.before.before.before.before.before.before.before.before.before.before.args.at c.before.before.before.before.before.before.before.before.body.ensures.0 c.before.before.before.before.before.before.before.past.ensures.0 (expr_at c.before.before.before.before.before.before.before.before.before.before.before.before.args.d c.before.before.before.before.before.before.before.before.before.before.before.before.args.img.now) (stmt_at_lem c.before.before.before.before.before.before.before.before.before.before.before.before.args.d c.before.before.before.before.before.before.before.before.before.before.before.before.args.img.now) c.before.before.before.before.before.before.if1.true) (last_ok _ _ (sym (ap (typed_of c.before.before.before.before.before.before.before.before.before.before.before.before.args.img.now) c.before.before.t.given.1) ∙ rw c.before.before.before.before.before.before.before.before.body.ensures.0 at c.before.before.before.before.analyze-expr.ensures.0) ((rw c.before.before.before.before.before.before.before.before.body.ensures.0 at c.before.before.before.before.analyze-expr.ensures.1).all _ (ap (typed_of c.before.before.before.before.before.before.before.before.before.before.before.before.args.img.now) c.before.before.t.given.1)) (c.returned.ensures _ _))
+returns c = rw (return_there c.before.before.before.before.before.before.before.before.before.before.before.before.args.img.now c.before.before.before.before.before.before.before.before.before.before.before.before.args.at c.before.before.before.before.before.before.before.before.body.ensures.0 c.before.before.before.before.before.before.before.past.ensures.0 (expr_at c.before.before.before.before.before.before.before.before.before.before.before.before.args.d c.before.before.before.before.before.before.before.before.before.before.before.before.args.img.now) (stmt_at_lem c.before.before.before.before.before.before.before.before.before.before.before.before.args.d c.before.before.before.before.before.before.before.before.before.before.before.before.args.img.now) c.before.before.before.before.before.before.if1.true) (last_ok _ _ (sym (ap (typed_of c.before.before.before.before.before.before.before.before.before.before.before.before.args.img.now) c.before.before.t.given.1) ∙ rw c.before.before.before.before.before.before.before.before.body.ensures.0 at c.before.before.before.before.analyze-expr.ensures.0) ((rw c.before.before.before.before.before.before.before.before.body.ensures.0 at c.before.before.before.before.analyze-expr.ensures.1).all _ (ap (typed_of c.before.before.before.before.before.before.before.before.before.before.before.before.args.img.now) c.before.before.t.given.1)) (c.returned.ensures _ _))
 
 returns-2 : tie.Need-returns-2
 unfolding stmt ofStmt vars typed_of
-returns-2 c = rw (return-there c.before.before.before.before.before.before.before.before.before.before.before.args.img.now c.before.before.before.before.before.before.before.before.before.before.before.args.at c.before.before.before.before.before.before.before.body.ensures.0 c.before.before.before.before.before.before.past.ensures.0 (expr_at c.before.before.before.before.before.before.before.before.before.before.before.args.d c.before.before.before.before.before.before.before.before.before.before.before.args.img.now) (stmt_at_lem c.before.before.before.before.before.before.before.before.before.before.before.args.d c.before.before.before.before.before.before.before.before.before.before.before.args.img.now) c.before.before.before.before.before.if1.true) (first_bad _ (sym (ap (typed_of c.before.before.before.before.before.before.before.before.before.before.before.args.img.now) c.before.t2.given.1) ∙ rw c.before.before.before.before.before.before.before.body.ensures.0 at c.before.before.before.analyze-expr.ensures.0))
+returns-2 c = rw (return_there c.before.before.before.before.before.before.before.before.before.before.before.args.img.now c.before.before.before.before.before.before.before.before.before.before.before.args.at c.before.before.before.before.before.before.before.body.ensures.0 c.before.before.before.before.before.before.past.ensures.0 (expr_at c.before.before.before.before.before.before.before.before.before.before.before.args.d c.before.before.before.before.before.before.before.before.before.before.before.args.img.now) (stmt_at_lem c.before.before.before.before.before.before.before.before.before.before.before.args.d c.before.before.before.before.before.before.before.before.before.before.before.args.img.now) c.before.before.before.before.before.if1.true) (first_bad _ (sym (ap (typed_of c.before.before.before.before.before.before.before.before.before.before.before.args.img.now) c.before.t2.given.1) ∙ rw c.before.before.before.before.before.before.before.body.ensures.0 at c.before.before.before.analyze-expr.ensures.0))
 
 returns-3 : tie.Need-returns-3
 unfolding stmt ofStmt vars ty_of
-returns-3 c = rw (return-not c.before.before.before.before.before.before.before.args.img.now c.before.before.before.before.before.before.before.args.at c.before.before.before.body.ensures.0 c.before.before.past.ensures.0 (expr_at c.before.before.before.before.before.before.before.args.d c.before.before.before.before.before.before.before.args.img.now) (stmt_at_lem c.before.before.before.before.before.before.before.args.d c.before.before.before.before.before.before.before.args.img.now) c.before.if1.false) (c.returned2.ensures _ _)
+returns-3 c = rw (return_not c.before.before.before.before.before.before.before.args.img.now c.before.before.before.before.before.before.before.args.at c.before.before.before.body.ensures.0 c.before.before.past.ensures.0 (expr_at c.before.before.before.before.before.before.before.args.d c.before.before.before.before.before.before.before.args.img.now) (stmt_at_lem c.before.before.before.before.before.before.before.args.d c.before.before.before.before.before.before.before.args.img.now) c.before.if1.false) (c.returned2.ensures _ _)
 
 pub analyze-return-spec : {M : Type 1} → statement M
 analyze-return-spec =

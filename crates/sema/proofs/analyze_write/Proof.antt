@@ -5,7 +5,7 @@ use Rattle.bounds.specs.Sizes.{vars}
 use Rattle.lookup.specs.Answers.{typed_of}
 use Rattle.rules.specs.Analyse.{stmt}
 use Rattle.rules.specs.Read.{stmt_as}
-use Rattle.sema.proofs.Runs.{first_bad, first-ok}
+use Rattle.sema.proofs.Runs.{first_bad, first_ok}
 use Rattle.sema.specs.Steps.{only}
 use mathlib.Core.Path.{◌∙◌, ap, sym}
 use borrow.Author.Rules.{rules}
@@ -35,7 +35,7 @@ enum-known-t c = search rules
 
 returns : tie.Need-returns
 unfolding stmt ofStmt stmt_as vars typed_of only
-returns c = λ R. first-ok _ _ (sym (ap (typed_of c.before.before.before.before.before.before.before.before.before.before.before.before.args.img.now) c.before.before.before.enum_told.given.1) ∙ rw (c.before.before.before.before.before.before.before.past.ensures.0, c.before.before.before.before.before.before.before.before.body.ensures.0) at c.before.before.before.before.before.analyze-expr.ensures.0) ((rw (c.before.before.before.before.before.before.before.past.ensures.0, c.before.before.before.before.before.before.before.before.body.ensures.0) at c.before.before.before.before.before.analyze-expr.ensures.1).all _ (ap (typed_of c.before.before.before.before.before.before.before.before.before.before.before.before.args.img.now) c.before.before.before.enum_told.given.1)) (rw (c.before.past2.ensures.0, c.before.before.before.before.before.before.before.past.ensures.0, c.before.before.before.before.before.before.before.before.body.ensures.0) at c.run-expr.ensures)
+returns c = λ R. first_ok _ _ (sym (ap (typed_of c.before.before.before.before.before.before.before.before.before.before.before.before.args.img.now) c.before.before.before.enum_told.given.1) ∙ rw (c.before.before.before.before.before.before.before.past.ensures.0, c.before.before.before.before.before.before.before.before.body.ensures.0) at c.before.before.before.before.before.analyze-expr.ensures.0) ((rw (c.before.before.before.before.before.before.before.past.ensures.0, c.before.before.before.before.before.before.before.before.body.ensures.0) at c.before.before.before.before.before.analyze-expr.ensures.1).all _ (ap (typed_of c.before.before.before.before.before.before.before.before.before.before.before.before.args.img.now) c.before.before.before.enum_told.given.1)) (rw (c.before.past2.ensures.0, c.before.before.before.before.before.before.before.past.ensures.0, c.before.before.before.before.before.before.before.before.body.ensures.0) at c.run-expr.ensures)
 
 returns-2 : tie.Need-returns-2
 unfolding stmt ofStmt stmt_as vars typed_of

@@ -1,7 +1,7 @@
 -- push_params meets its contract.
 -- Assumes nothing.
 use Prim.Native.Nat.{◌*◌, ◌+◌, ◌≤◌, ℕ}
-use Rattle.lookup.specs.Places.{places-end, places-more, places-zero}
+use Rattle.lookup.specs.Places.{places_end, places_more, places_zero}
 use Rattle.rules.specs.Read.{places_from, places_in}
 use Rattle.sema.proofs.Bodies.{bound_more, bound_none}
 use Rattle.sema.specs.Steps.{Bound}
@@ -32,7 +32,7 @@ same_length : tie.Need-same-length invariant-loop decreases-loop
 same_length c = search rules
 
 returns : tie.Need-returns invariant-loop decreases-loop
-returns c = c.before.before.loop.invariant.1.1 _ _ (bound_none _ (places-end c.before.before.before.before.before.before.before.args.img.now c.before.before.loop.k c.before.before.loop.p c.before.before.before.before.past.result c.if1.true))
+returns c = c.before.before.loop.invariant.1.1 _ _ (bound_none _ (places_end c.before.before.before.before.before.before.before.args.img.now c.before.before.loop.k c.before.before.loop.p c.before.before.before.before.past.result c.if1.true))
 
 declared-requires : tie.Need-declared-requires invariant-loop decreases-loop
 declared-requires c κs = search rules
@@ -41,7 +41,7 @@ body-requires-2 : tie.Need-body-requires-2 invariant-loop decreases-loop
 body-requires-2 c κs = search rules
 
 push-requires : tie.Need-push-requires invariant-loop decreases-loop
-push-requires c κs = (omega (arith, ap length (places-more c.before.before.before.before.before.before.before.before.before.before.args.img.now c.before.before.before.before.before.loop.k c.before.before.before.before.before.loop.p c.before.before.before.before.before.before.before.past.result c.before.before.before.before.loop-test.true c.before.before.before.if1.false), c.before.before.before.before.before.loop.invariant.0), c.before.before.before.before.before.before.before.before.before.before.requires.1)
+push-requires c κs = (omega (arith, ap length (places_more c.before.before.before.before.before.before.before.before.before.before.args.img.now c.before.before.before.before.before.loop.k c.before.before.before.before.before.loop.p c.before.before.before.before.before.before.before.past.result c.before.before.before.before.loop-test.true c.before.before.before.if1.false), c.before.before.before.before.before.loop.invariant.0), c.before.before.before.before.before.before.before.before.before.before.requires.1)
 
 past-requires-2 : tie.Need-past-requires-2 invariant-loop decreases-loop
 past-requires-2 c κs = search rules
@@ -53,13 +53,13 @@ loop-less : tie.Need-loop-smaller invariant-loop decreases-loop
 loop-less c = search rules
 
 loop-again : tie.Need-loop-preserved invariant-loop decreases-loop
-loop-again c = (rw c.past2.ensures.0 (omega (arith, ap length (places-more c.before.before.before.before.before.before.before.before.before.before.before.before.before.before.args.img.now c.before.before.before.before.before.before.before.before.before.loop.k c.before.before.before.before.before.before.before.before.before.loop.p c.before.before.before.before.before.before.before.before.before.before.before.past.result c.before.before.before.before.before.before.before.before.loop-test.true c.before.before.before.before.before.before.before.if1.false), c.before.before.before.before.before.before.before.before.before.loop.invariant.0, c.before.before.before.push.ensures.next, c.before.before.before.push.ensures.size)), (c.before.before.before.push.ensures.size ∙ c.before.before.before.before.before.before.before.before.before.loop.invariant.1.0, λ e2 r s. c.before.before.before.before.before.before.before.before.before.loop.invariant.1.1 e2 r (bound_more c.before.before.before.before.before.before.before.before.before.loop.p c.before.before.before.push.ensures c.before.before.before.before.body2.ensures.0 c.before.before.before.before.before.before.declared.ensures (places-more c.before.before.before.before.before.before.before.before.before.before.before.before.before.before.args.img.now c.before.before.before.before.before.before.before.before.before.loop.k c.before.before.before.before.before.before.before.before.before.loop.p c.before.before.before.before.before.before.before.before.before.before.before.past.result c.before.before.before.before.before.before.before.before.loop-test.true c.before.before.before.before.before.before.before.if1.false) (rw c.past2.ensures.0 at s))))
+loop-again c = (rw c.past2.ensures.0 (omega (arith, ap length (places_more c.before.before.before.before.before.before.before.before.before.before.before.before.before.before.args.img.now c.before.before.before.before.before.before.before.before.before.loop.k c.before.before.before.before.before.before.before.before.before.loop.p c.before.before.before.before.before.before.before.before.before.before.before.past.result c.before.before.before.before.before.before.before.before.loop-test.true c.before.before.before.before.before.before.before.if1.false), c.before.before.before.before.before.before.before.before.before.loop.invariant.0, c.before.before.before.push.ensures.next, c.before.before.before.push.ensures.size)), (c.before.before.before.push.ensures.size ∙ c.before.before.before.before.before.before.before.before.before.loop.invariant.1.0, λ e2 r s. c.before.before.before.before.before.before.before.before.before.loop.invariant.1.1 e2 r (bound_more c.before.before.before.before.before.before.before.before.before.loop.p c.before.before.before.push.ensures c.before.before.before.before.body2.ensures.0 c.before.before.before.before.before.before.declared.ensures (places_more c.before.before.before.before.before.before.before.before.before.before.before.before.before.before.args.img.now c.before.before.before.before.before.before.before.before.before.loop.k c.before.before.before.before.before.before.before.before.before.loop.p c.before.before.before.before.before.before.before.before.before.before.before.past.result c.before.before.before.before.before.before.before.before.loop-test.true c.before.before.before.before.before.before.before.if1.false) (rw c.past2.ensures.0 at s))))
 
 same-length-2 : tie.Need-same-length-2 invariant-loop decreases-loop
 same-length-2 c = search rules
 
 returns-2 : tie.Need-returns-2 invariant-loop decreases-loop
-returns-2 c = c.before.loop.invariant.1.1 _ _ (bound_none _ (places-zero c.before.before.before.before.before.before.args.img.now c.before.loop.k c.before.loop.p c.before.before.before.past.result c.loop-test.false))
+returns-2 c = c.before.loop.invariant.1.1 _ _ (bound_none _ (places_zero c.before.before.before.before.before.before.args.img.now c.before.loop.k c.before.loop.p c.before.before.before.past.result c.loop-test.false))
 
 pub push-params-spec : {M : Type 1} → statement M
 push-params-spec =

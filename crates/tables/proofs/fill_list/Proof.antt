@@ -8,7 +8,7 @@ use borrow.Author.Tests.{ltb-true, ltb-false}
 use lib.ListN.{length-set}
 use Rattle.rules.specs.Read.{name_in, places_in, places_from}
 use Rattle.records.specs.Keys.{key_of}
-use Rattle.records.specs.Places.{places-zero, places-end, places-more}
+use Rattle.records.specs.Places.{places_zero, places_end, places_more}
 use Rattle.tables.proofs.Fill.{Filled, stored, begin, put, done}
 use borrow.Author.Rules.{rules}
 use Rattle.tables.proofs.fill_list.Statement.{statement}
@@ -92,7 +92,7 @@ loop-again c =
       omega arith,
       rw (c.past2.ensures.0, c.before.before.before.name-key.ensures, c.before.before.before.before.body2.ensures.0, fewer)
           (put img c.before.before.before.before.before.before.before.before.before.before.before.before.clear-heads.new.0 c.before.before.before.before.before.before.before.before.before.before.before.before.before.before.before.before.args.base (places_in c.before.before.before.before.before.before.before.before.before.before.before.before.before.before.before.before.args.most img c.before.before.before.before.before.before.before.before.before.before.before.before.before.before.before.before.args.l) c.before.before.before.before.before.before.before.loop.t _ _ c.before.before.before.before.before.before.before.loop.n p _
-          (places-more img (c.before.before.before.before.before.before.before.before.before.before.before.before.before.before.before.before.args.most - c.before.before.before.before.before.before.before.loop.n) p c.before.before.before.before.before.before.before.before.before.past.result (λ z. omega arith) before)
+          (places_more img (c.before.before.before.before.before.before.before.before.before.before.before.before.before.before.before.before.args.most - c.before.before.before.before.before.before.before.loop.n) p c.before.before.before.before.before.before.before.before.before.past.result (λ z. omega arith) before)
           c.before.before.before.before.before.before.before.loop.invariant.1
           (stored img c.before.before.before.before.before.before.before.loop.t (c.before.before.before.before.before.before.before.before.before.before.before.before.before.before.before.before.args.base + 62 + c.before.before.before.before.before.before.before.loop.n) (c.before.before.before.before.before.before.before.before.before.before.before.before.before.before.before.before.args.base + 1 + key_of (name_in img p) % 61) p c.before.beside.result (c.before.before.before.before.before.before.before.loop.n + 1)
           (omega arith) (omega (arith, c.before.before.before.before.before.before.before.loop.invariant.1.above.size, c.before.before.before.before.before.before.before.before.before.before.before.before.clear-heads.ensures.above.size)) (omega (arith, before, c.before.before.before.before.before.before.before.before.before.past.ensures.1))
@@ -110,8 +110,8 @@ same_length c = simp length-set (omega (arith, c.before.loop.invariant.1.above.s
 
 returns : tie.Need-returns invariant-loop decreases-loop
 returns c = done c.before.before.before.before.before.before.before.before.before.before.args.img.now c.before.before.before.before.before.before.clear-heads.new.0 c.before.before.before.before.before.before.before.before.before.before.args.base (places_in c.before.before.before.before.before.before.before.before.before.before.args.most c.before.before.before.before.before.before.before.before.before.before.args.img.now c.before.before.before.before.before.before.before.before.before.before.args.l) c.before.loop.t _ c.before.loop.n c.before.before.before.before.before.before.before.before.before.before.args.t.now
-    (⊎_elim (λ w. places-end c.before.before.before.before.before.before.before.before.before.before.args.img.now (c.before.before.before.before.before.before.before.before.before.before.args.most - c.before.loop.n) c.before.loop.p c.before.before.before.past.result (ltb-false _ _ w.1.left))
-    (λ w. places-zero c.before.before.before.before.before.before.before.before.before.before.args.img.now (c.before.before.before.before.before.before.before.before.before.before.args.most - c.before.loop.n) c.before.loop.p c.before.before.before.past.result (omega (arith, w.left))) c.loop-test.branch)
+    (⊎_elim (λ w. places_end c.before.before.before.before.before.before.before.before.before.before.args.img.now (c.before.before.before.before.before.before.before.before.before.before.args.most - c.before.loop.n) c.before.loop.p c.before.before.before.past.result (ltb-false _ _ w.1.left))
+    (λ w. places_zero c.before.before.before.before.before.before.before.before.before.before.args.img.now (c.before.before.before.before.before.before.before.before.before.before.args.most - c.before.loop.n) c.before.loop.p c.before.before.before.past.result (omega (arith, w.left))) c.loop-test.branch)
     (omega (arith, c.before.loop.invariant.1.above.size, c.before.before.before.before.before.before.clear-heads.ensures.above.size))
     c.before.before.before.before.before.before.clear-heads.ensures.above
     c.before.loop.invariant.1

@@ -1,6 +1,6 @@
 -- `texts::judged_text` meets its contract: analysis alone has a text.
 -- Assumes nothing.
-use Rattle.texts.specs.Laws.{tells-image, tells-ambiguous, tells-fine, tells-fault, fault-room}
+use Rattle.texts.specs.Laws.{tells_image, tells_ambiguous, tells_fine, tells_fault, fault_room}
 use borrow.Author.Rules.{rules}
 use Rattle.texts.proofs.judged_text.Statement.{statement}
 use Rattle.texts.proofs.judged_text.Tie as tie
@@ -12,7 +12,7 @@ enum-known-j : tie.Need-enum-known-j
 enum-known-j c = search rules
 
 fault-requires : tie.Need-fault-requires
-fault-requires c κs = fault-room c.before.before.before.before.before.before.before.args.image.now c.before.before.j.given.1 c.before.before.before.before.before.before.before.requires
+fault-requires c κs = fault_room c.before.before.before.before.before.before.before.args.image.now c.before.before.j.given.1 c.before.before.before.before.before.before.before.requires
 
 told-requires : tie.Need-told-requires
 told-requires c κs = search rules
@@ -30,16 +30,16 @@ same_length : tie.Need-same-length
 same_length c = search rules
 
 returns : tie.Need-returns
-returns c = tells-fault c.before.before.before.before.before.before.before.before.before.before.before.args.image.now c.before.before.before.before.before.before.j.given.1 (c.before.before.before.before.before.before.before.before.answer-of.ensures c.before.before.before.before.before.before.before.before.before.before.before.args.image.now) c.told.ensures c.before.before.before.fault.ensures
+returns c = tells_fault c.before.before.before.before.before.before.before.before.before.before.before.args.image.now c.before.before.before.before.before.before.j.given.1 (c.before.before.before.before.before.before.before.before.answer-of.ensures c.before.before.before.before.before.before.before.before.before.before.before.args.image.now) c.told.ensures c.before.before.before.fault.ensures
 
 returns-2 : tie.Need-returns-2
-returns-2 c = tells-image c.before.before.before.before.before.args.image.now c.enum_told.given.1 (c.before.before.answer-of.ensures c.before.before.before.before.before.args.image.now)
+returns-2 c = tells_image c.before.before.before.before.before.args.image.now c.enum_told.given.1 (c.before.before.answer-of.ensures c.before.before.before.before.before.args.image.now)
 
 returns-3 : tie.Need-returns-3
-returns-3 c = tells-ambiguous c.before.before.before.before.before.args.image.now c.enum-told2.given.1 (c.before.before.answer-of.ensures c.before.before.before.before.before.args.image.now)
+returns-3 c = tells_ambiguous c.before.before.before.before.before.args.image.now c.enum-told2.given.1 (c.before.before.answer-of.ensures c.before.before.before.before.before.args.image.now)
 
 returns-4 : tie.Need-returns-4
-returns-4 c = tells-fine c.before.before.before.before.before.args.image.now c.enum-told3.given.1 (c.before.before.answer-of.ensures c.before.before.before.before.before.args.image.now)
+returns-4 c = tells_fine c.before.before.before.before.before.args.image.now c.enum-told3.given.1 (c.before.before.answer-of.ensures c.before.before.before.before.before.args.image.now)
 
 pub judged-text-spec : {M : Type 1} → statement M
 judged-text-spec =

@@ -1,7 +1,7 @@
 -- `count_stmt` meets its contract.
 -- Assumes nothing.
 use borrow.Author.Rules.{rules}
-use Rattle.trace.specs.Lists.{alone-counted, alone-ready}
+use Rattle.trace.specs.Lists.{alone_counted, alone_ready}
 use Rattle.trace.proofs.count_stmt.Statement.{statement}
 use Rattle.trace.proofs.count_stmt.Tie as tie
 
@@ -15,13 +15,13 @@ past-requires : tie.Need-past-requires
 past-requires c κs = search rules
 
 gen-stmts-requires : tie.Need-gen-stmts-requires
-gen-stmts-requires c κs = (alone-ready c.before.before.before.before.before.before.before.args.img.now c.before.before.before.before.before.before.before.args.d c.before.before.before.before.before.before.before.args.at c.before.before.before.before.before.before.before.requires.0.known.0.small c.before.before.before.before.before.before.before.requires.1 c.past.ensures.0 c.past.ensures.1 c.before.before.before.before.before.before.before.requires.0, c.past.ensures.1)
+gen-stmts-requires c κs = (alone_ready c.before.before.before.before.before.before.before.args.img.now c.before.before.before.before.before.before.before.args.d c.before.before.before.before.before.before.before.args.at c.before.before.before.before.before.before.before.requires.0.known.0.small c.before.before.before.before.before.before.before.requires.1 c.past.ensures.0 c.past.ensures.1 c.before.before.before.before.before.before.before.requires.0, c.past.ensures.1)
 
 same_length : tie.Need-same-length
 same_length c = c.before.before.before.before.gen-stmts.auto.1.1.0
 
 returns : tie.Need-returns
-returns c = alone-counted c.before.before.before.before.before.before.before.before.before.before.before.before.args.img.now c.before.before.before.before.before.before.before.before.before.before.before.before.args.d c.before.before.before.before.before.before.before.before.before.before.before.before.args.at c.before.before.before.before.before.before.before.before.before.before.before.before.requires.0.known.0.small c.before.before.before.before.before.before.before.before.before.before.before.before.requires.1 c.before.before.before.before.before.past.ensures.0 c.before.before.before.before.before.past.ensures.1 c.before.before.before.before.gen-stmts.ensures
+returns c = alone_counted c.before.before.before.before.before.before.before.before.before.before.before.before.args.img.now c.before.before.before.before.before.before.before.before.before.before.before.before.args.d c.before.before.before.before.before.before.before.before.before.before.before.before.args.at c.before.before.before.before.before.before.before.before.before.before.before.before.requires.0.known.0.small c.before.before.before.before.before.before.before.before.before.before.before.before.requires.1 c.before.before.before.before.before.past.ensures.0 c.before.before.before.before.before.past.ensures.1 c.before.before.before.before.gen-stmts.ensures
 
 pub count-stmt-spec : {M : Type 1} → statement M
 count-stmt-spec =

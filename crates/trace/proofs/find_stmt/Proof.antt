@@ -3,7 +3,7 @@
 use mathlib.Core.Path.{◌≡◌, refl, ◌∙◌}
 use Rattle.emit.specs.declared.St.{St}
 use Rattle.trace.specs.Moves.{entering}
-use Rattle.trace.specs.Lists.{Down, down_begin, down-settled, down-go, down-end}
+use Rattle.trace.specs.Lists.{Down, down_begin, down-settled, down-go, down_end}
 use borrow.Author.Rules.{rules}
 use Rattle.trace.proofs.find_stmt.Statement.{statement}
 use Rattle.trace.proofs.find_stmt.Tie as tie
@@ -48,7 +48,7 @@ same-length-2 : tie.Need-same-length-2 invariant-loop decreases-loop
 same-length-2 c = (c.before.before.before.loop.invariant c.before.before.before.before.before.before.before.before.args.st c.before.before.before.before.block.ensures).long
 
 returns-2 : tie.Need-returns-2 invariant-loop decreases-loop
-returns-2 c = down-end (c.before.before.before.loop.invariant c.before.before.before.before.before.before.before.before.args.st c.before.before.before.before.block.ensures) _ c.before.before.loop-test.false
+returns-2 c = down_end (c.before.before.before.loop.invariant c.before.before.before.before.before.before.before.before.args.st c.before.before.before.before.block.ensures) _ c.before.before.loop-test.false
 
 pub find-stmt-spec : {M : Type 1} → statement M
 find-stmt-spec =

@@ -4,7 +4,7 @@ use Prim.Native.Nat.{◌-◌}
 use native.Mathlib.Omega.{arith}
 use borrow.Author.Rules.{rules}
 use Rattle.stmt.proofs.Lists.{goes_on}
-use Rattle.trace.specs.Lists.{Logs, logs_begin, logs-go, logs-in, logs-own, logs_end}
+use Rattle.trace.specs.Lists.{Logs, logs_begin, logs_go, logs-in, logs-own, logs_end}
 use Rattle.trace.proofs.in_emit.Statement.{statement}
 use Rattle.trace.proofs.in_emit.Tie as tie
 
@@ -54,7 +54,7 @@ loop-less : tie.Need-loop-smaller invariant-loop decreases-loop
 loop-less c = omega (arith, goes_on c.before.before.before.before.before.before.before.before.before.before.before.before.before.before.before.before.args.img.now c.before.before.before.before.before.before.before.before.loop.p c.before.before.before.before.before.before.before.before.before.before.past2.result c.before.before.before.before.before.before.before.loop-test.true c.before.before.before.before.before.before.before.before.before.before.past2.ensures.1, c.past3.ensures.0)
 
 loop-again : tie.Need-loop-preserved invariant-loop decreases-loop
-loop-again c = logs-go c.before.before.before.before.before.before.before.before.loop.invariant c.before.before.before.before.before.before.before.before.before.before.before.before.before.before.before.before.requires.0.small c.before.before.before.before.before.before.before.before.before.before.past2.ensures.1 c.before.before.before.before.before.before.before.loop-test.true c.past3.ensures.0 c.before.before.before.before.before.before.count-expr.ensures c.before.before.before.before.if1.false c.before.before.before.reserve.ensures c.before.if2.false
+loop-again c = logs_go c.before.before.before.before.before.before.before.before.loop.invariant c.before.before.before.before.before.before.before.before.before.before.before.before.before.before.before.before.requires.0.small c.before.before.before.before.before.before.before.before.before.before.past2.ensures.1 c.before.before.before.before.before.before.before.loop-test.true c.past3.ensures.0 c.before.before.before.before.before.before.count-expr.ensures c.before.before.before.before.if1.false c.before.before.before.reserve.ensures c.before.if2.false
 
 own-requires-2 : tie.Need-own-requires-2 invariant-loop decreases-loop
 own-requires-2 c κs = search rules

@@ -5,7 +5,7 @@ use native.Mathlib.Omega.{arith}
 use borrow.Author.Rules.{rules}
 use Rattle.rules.specs.Read.{stmt_as}
 use Rattle.bounds.specs.Sizes.{vars}
-use Rattle.trace.specs.Parts.{for-from, for-to, for-add, for-lt, for_loop}
+use Rattle.trace.specs.Parts.{for_from, for_to, for_add, for_lt, for_loop}
 use Rattle.trace.proofs.in_for.Statement.{statement}
 use Rattle.trace.proofs.in_for.Tie as tie
 
@@ -28,7 +28,7 @@ same_length : tie.Need-same-length
 same_length c = search rules
 
 returns : tie.Need-returns
-returns c = for-from c.before.before.before.before.before.before.before.body.ensures.0 c.before.before.before.before.before.before.past.ensures.0 c.before.before.before.count-expr.ensures c.before.if1.true c.value.ensures
+returns c = for_from c.before.before.before.before.before.before.before.body.ensures.0 c.before.before.before.before.before.before.past.ensures.0 c.before.before.before.count-expr.ensures c.before.if1.true c.value.ensures
 
 count-expr-requires-2 : tie.Need-count-expr-requires-2
 count-expr-requires-2 c κs = c.before.before.before.before.before.before.before.before.before.before.before.requires.known
@@ -40,7 +40,7 @@ same-length-2 : tie.Need-same-length-2
 same-length-2 c = search rules
 
 returns-2 : tie.Need-returns-2
-returns-2 c = for-to c.before.before.before.before.before.before.before.before.before.before.before.body.ensures.0 c.before.before.before.before.before.before.before.before.before.before.past.ensures.0 c.before.before.before.before.before.before.before.before.before.past2.ensures.0 c.before.before.before.before.before.before.before.count-expr.ensures c.before.before.before.before.before.if1.false c.before.before.before.count-expr2.ensures c.before.if2.true c.value2.ensures
+returns-2 c = for_to c.before.before.before.before.before.before.before.before.before.before.before.body.ensures.0 c.before.before.before.before.before.before.before.before.before.before.past.ensures.0 c.before.before.before.before.before.before.before.before.before.past2.ensures.0 c.before.before.before.before.before.before.before.count-expr.ensures c.before.before.before.before.before.if1.false c.before.before.before.count-expr2.ensures c.before.if2.true c.value2.ensures
 
 alloc-reg-requires : tie.Need-alloc-reg-requires
 alloc-reg-requires c κs = search rules
@@ -55,7 +55,7 @@ same-length-3 : tie.Need-same-length-3
 same-length-3 c = search rules
 
 returns-3 : tie.Need-returns-3
-returns-3 c = for-add c.before.before.before.before.before.before.before.before.before.before.before.before.before.before.before.body.ensures.0 c.before.before.before.before.before.before.before.before.before.before.before.before.before.before.past.ensures.0 c.before.before.before.before.before.before.before.before.before.before.before.before.before.past2.ensures.0 c.before.before.before.before.before.before.before.before.before.before.before.count-expr.ensures c.before.before.before.before.before.before.before.before.before.if1.false c.before.before.before.before.before.before.before.count-expr2.ensures c.before.before.before.before.before.if2.false c.before.before.before.before.alloc-reg.ensures c.before.before.before.reserve.ensures c.before.if3.true c.own.ensures
+returns-3 c = for_add c.before.before.before.before.before.before.before.before.before.before.before.before.before.before.before.body.ensures.0 c.before.before.before.before.before.before.before.before.before.before.before.before.before.before.past.ensures.0 c.before.before.before.before.before.before.before.before.before.before.before.before.before.past2.ensures.0 c.before.before.before.before.before.before.before.before.before.before.before.count-expr.ensures c.before.before.before.before.before.before.before.before.before.if1.false c.before.before.before.before.before.before.before.count-expr2.ensures c.before.before.before.before.before.if2.false c.before.before.before.before.alloc-reg.ensures c.before.before.before.reserve.ensures c.before.if3.true c.own.ensures
 
 alloc-reg-requires-2 : tie.Need-alloc-reg-requires-2
 alloc-reg-requires-2 c κs = search rules
@@ -70,7 +70,7 @@ same-length-4 : tie.Need-same-length-4
 same-length-4 c = search rules
 
 returns-4 : tie.Need-returns-4
-returns-4 c = for-lt (record { var = c.before.before.before.before.before.before.before.before.before.before.before.before.before.before.before.before.before.before.before.body.ensures.0; from = c.before.before.before.before.before.before.before.before.before.before.before.before.before.before.before.before.before.before.past.ensures.0; to = c.before.before.before.before.before.before.before.before.before.before.before.before.before.before.before.before.before.past2.ensures.0; list = refl; begins = c.before.before.before.before.before.before.before.before.before.before.before.before.before.before.before.count-expr.ensures; ends = c.before.before.before.before.before.before.before.before.before.before.before.count-expr2.ensures; takes = c.before.before.before.before.before.before.before.before.alloc-reg.ensures; keeps = c.before.before.before.before.before.before.before.reserve.ensures; tests = c.before.before.before.before.alloc-reg2.ensures; tested = c.before.before.before.reserve2.ensures }) c.before.before.before.before.before.before.before.before.before.before.before.before.before.if1.false c.before.before.before.before.before.before.before.before.before.if2.false c.before.before.before.before.before.if3.false c.before.if4.true c.own2.ensures
+returns-4 c = for_lt (record { var = c.before.before.before.before.before.before.before.before.before.before.before.before.before.before.before.before.before.before.before.body.ensures.0; from = c.before.before.before.before.before.before.before.before.before.before.before.before.before.before.before.before.before.before.past.ensures.0; to = c.before.before.before.before.before.before.before.before.before.before.before.before.before.before.before.before.before.past2.ensures.0; list = refl; begins = c.before.before.before.before.before.before.before.before.before.before.before.before.before.before.before.count-expr.ensures; ends = c.before.before.before.before.before.before.before.before.before.before.before.count-expr2.ensures; takes = c.before.before.before.before.before.before.before.before.alloc-reg.ensures; keeps = c.before.before.before.before.before.before.before.reserve.ensures; tests = c.before.before.before.before.alloc-reg2.ensures; tested = c.before.before.before.reserve2.ensures }) c.before.before.before.before.before.before.before.before.before.before.before.before.before.if1.false c.before.before.before.before.before.before.before.before.before.if2.false c.before.before.before.before.before.if3.false c.before.if4.true c.own2.ensures
 
 bind-requires : tie.Need-bind-requires
 unfolding vars stmt_as

@@ -7,7 +7,7 @@ use Rattle.rules.specs.Read.{stmt_as}
 use Rattle.bounds.specs.Sizes.{vars}
 use Rattle.stmt.proofs.Names.{fewer}
 use Rattle.stmt.proofs.Trees.{third_is}
-use Rattle.trace.specs.Parts.{if_cond, if-jnz, if-else, if-jmp, if-then}
+use Rattle.trace.specs.Parts.{if_cond, if_jnz, if_else, if_jmp, if_then}
 use Rattle.trace.proofs.in_if.Statement.{statement}
 use Rattle.trace.proofs.in_if.Tie as tie
 
@@ -55,7 +55,7 @@ same-length-2 : tie.Need-same-length-2
 same-length-2 c = c.before.before.before.before.before.before.count-else.auto.0
 
 returns-2 : tie.Need-returns-2
-returns-2 c = if-jnz (record { cond = c.before.before.before.before.before.before.before.before.before.before.before.before.before.before.before.before.before.body.ensures.0; then = c.before.before.before.before.before.before.before.before.before.before.before.before.before.before.before.before.past.ensures.0; else = c.before.before.before.before.before.before.before.before.before.before.before.before.before.before.before.past2.ensures.0; ends = c.before.before.before.before.before.before.before.before.before.before.before.before.before.before.past3.ensures.0; counts = c.before.before.before.before.before.before.before.before.before.before.before.before.count-expr.ensures; opens = c.before.before.before.before.before.before.before.before.before.open-slot.ensures; counted = c.before.before.before.before.before.before.count-else.ensures; keeps = c.before.before.before.reserve.ensures }) c.before.before.before.before.before.before.before.before.before.before.if1.false c.before.if2.true c.jump.ensures
+returns-2 c = if_jnz (record { cond = c.before.before.before.before.before.before.before.before.before.before.before.before.before.before.before.before.before.body.ensures.0; then = c.before.before.before.before.before.before.before.before.before.before.before.before.before.before.before.before.past.ensures.0; else = c.before.before.before.before.before.before.before.before.before.before.before.before.before.before.before.past2.ensures.0; ends = c.before.before.before.before.before.before.before.before.before.before.before.before.before.before.past3.ensures.0; counts = c.before.before.before.before.before.before.before.before.before.before.before.before.count-expr.ensures; opens = c.before.before.before.before.before.before.before.before.before.open-slot.ensures; counted = c.before.before.before.before.before.before.count-else.ensures; keeps = c.before.before.before.reserve.ensures }) c.before.before.before.before.before.before.before.before.before.before.if1.false c.before.if2.true c.jump.ensures
 
 slice-write-scope : tie.Need-slice-write-scope
 slice-write-scope c = omega (arith, c.before.before.before.before.before.before.before.before.before.before.before.before.before.before.before.before.before.before.before.before.before.before.requires.size, c.before.before.before.before.before.before.before.count-else.auto.0)
@@ -67,7 +67,7 @@ same-length-3 : tie.Need-same-length-3
 same-length-3 c = simp length-set c.before.before.before.before.before.before.before.before.count-else.auto.0
 
 returns-3 : tie.Need-returns-3
-returns-3 c = if-else (record { cond = c.before.before.before.before.before.before.before.before.before.before.before.before.before.before.before.before.before.before.before.body.ensures.0; then = c.before.before.before.before.before.before.before.before.before.before.before.before.before.before.before.before.before.before.past.ensures.0; else = c.before.before.before.before.before.before.before.before.before.before.before.before.before.before.before.before.before.past2.ensures.0; ends = c.before.before.before.before.before.before.before.before.before.before.before.before.before.before.before.before.past3.ensures.0; counts = c.before.before.before.before.before.before.before.before.before.before.before.before.before.before.count-expr.ensures; opens = c.before.before.before.before.before.before.before.before.before.before.before.open-slot.ensures; counted = c.before.before.before.before.before.before.before.before.count-else.ensures; keeps = c.before.before.before.before.before.reserve.ensures }) c.before.before.before.before.before.before.before.before.before.before.before.before.before.before.before.before.before.before.before.before.before.before.before.requires c.before.before.before.before.before.before.before.before.count-else.auto.0 c.before.before.before.before.before.before.before.before.before.before.before.before.if1.false c.before.before.before.if2.false c.before.if3.true c.block.ensures
+returns-3 c = if_else (record { cond = c.before.before.before.before.before.before.before.before.before.before.before.before.before.before.before.before.before.before.before.body.ensures.0; then = c.before.before.before.before.before.before.before.before.before.before.before.before.before.before.before.before.before.before.past.ensures.0; else = c.before.before.before.before.before.before.before.before.before.before.before.before.before.before.before.before.before.past2.ensures.0; ends = c.before.before.before.before.before.before.before.before.before.before.before.before.before.before.before.before.past3.ensures.0; counts = c.before.before.before.before.before.before.before.before.before.before.before.before.before.before.count-expr.ensures; opens = c.before.before.before.before.before.before.before.before.before.before.before.open-slot.ensures; counted = c.before.before.before.before.before.before.before.before.count-else.ensures; keeps = c.before.before.before.before.before.reserve.ensures }) c.before.before.before.before.before.before.before.before.before.before.before.before.before.before.before.before.before.before.before.before.before.before.before.requires c.before.before.before.before.before.before.before.before.count-else.auto.0 c.before.before.before.before.before.before.before.before.before.before.before.before.if1.false c.before.before.before.if2.false c.before.if3.true c.block.ensures
 
 jump-requires-2 : tie.Need-jump-requires-2
 jump-requires-2 c κs = search rules
@@ -76,7 +76,7 @@ same-length-4 : tie.Need-same-length-4
 same-length-4 c = c.before.before.before.before.before.before.before.before.before.before.count-else.auto.0
 
 returns-4 : tie.Need-returns-4
-returns-4 c = if-jmp (record { cond = c.before.before.before.before.before.before.before.before.before.before.before.before.before.before.before.before.before.before.before.before.before.body.ensures.0; then = c.before.before.before.before.before.before.before.before.before.before.before.before.before.before.before.before.before.before.before.before.past.ensures.0; else = c.before.before.before.before.before.before.before.before.before.before.before.before.before.before.before.before.before.before.before.past2.ensures.0; ends = c.before.before.before.before.before.before.before.before.before.before.before.before.before.before.before.before.before.before.past3.ensures.0; counts = c.before.before.before.before.before.before.before.before.before.before.before.before.before.before.before.before.count-expr.ensures; opens = c.before.before.before.before.before.before.before.before.before.before.before.before.before.open-slot.ensures; counted = c.before.before.before.before.before.before.before.before.before.before.count-else.ensures; keeps = c.before.before.before.before.before.before.before.reserve.ensures }) c.before.before.before.before.before.before.before.before.before.before.before.before.before.before.if1.false c.before.before.before.if3.false c.before.if4.true c.jump2.ensures
+returns-4 c = if_jmp (record { cond = c.before.before.before.before.before.before.before.before.before.before.before.before.before.before.before.before.before.before.before.before.before.body.ensures.0; then = c.before.before.before.before.before.before.before.before.before.before.before.before.before.before.before.before.before.before.before.before.past.ensures.0; else = c.before.before.before.before.before.before.before.before.before.before.before.before.before.before.before.before.before.before.before.past2.ensures.0; ends = c.before.before.before.before.before.before.before.before.before.before.before.before.before.before.before.before.before.before.past3.ensures.0; counts = c.before.before.before.before.before.before.before.before.before.before.before.before.before.before.before.before.count-expr.ensures; opens = c.before.before.before.before.before.before.before.before.before.before.before.before.before.open-slot.ensures; counted = c.before.before.before.before.before.before.before.before.before.before.count-else.ensures; keeps = c.before.before.before.before.before.before.before.reserve.ensures }) c.before.before.before.before.before.before.before.before.before.before.before.before.before.before.if1.false c.before.before.before.if3.false c.before.if4.true c.jump2.ensures
 
 block-requires-2 : tie.Need-block-requires-2
 block-requires-2 c κs = search rules
@@ -85,7 +85,7 @@ same-length-5 : tie.Need-same-length-5
 same-length-5 c = c.before.before.before.before.before.before.before.before.before.before.count-else.auto.0
 
 returns-5 : tie.Need-returns-5
-returns-5 c = if-then (record { cond = c.before.before.before.before.before.before.before.before.before.before.before.before.before.before.before.before.before.before.before.before.before.body.ensures.0; then = c.before.before.before.before.before.before.before.before.before.before.before.before.before.before.before.before.before.before.before.before.past.ensures.0; else = c.before.before.before.before.before.before.before.before.before.before.before.before.before.before.before.before.before.before.before.past2.ensures.0; ends = c.before.before.before.before.before.before.before.before.before.before.before.before.before.before.before.before.before.before.past3.ensures.0; counts = c.before.before.before.before.before.before.before.before.before.before.before.before.before.before.before.before.count-expr.ensures; opens = c.before.before.before.before.before.before.before.before.before.before.before.before.before.open-slot.ensures; counted = c.before.before.before.before.before.before.before.before.before.before.count-else.ensures; keeps = c.before.before.before.before.before.before.before.reserve.ensures }) c.before.before.before.before.before.before.before.before.before.before.before.before.before.before.before.before.before.before.before.before.before.before.before.before.before.requires c.before.before.before.before.before.before.before.before.before.before.count-else.auto.0 c.before.before.before.before.before.before.before.before.before.before.before.before.before.before.if1.false c.before.before.before.if3.false c.before.if4.false c.block2.ensures
+returns-5 c = if_then (record { cond = c.before.before.before.before.before.before.before.before.before.before.before.before.before.before.before.before.before.before.before.before.before.body.ensures.0; then = c.before.before.before.before.before.before.before.before.before.before.before.before.before.before.before.before.before.before.before.before.past.ensures.0; else = c.before.before.before.before.before.before.before.before.before.before.before.before.before.before.before.before.before.before.before.past2.ensures.0; ends = c.before.before.before.before.before.before.before.before.before.before.before.before.before.before.before.before.before.before.past3.ensures.0; counts = c.before.before.before.before.before.before.before.before.before.before.before.before.before.before.before.before.count-expr.ensures; opens = c.before.before.before.before.before.before.before.before.before.before.before.before.before.open-slot.ensures; counted = c.before.before.before.before.before.before.before.before.before.before.count-else.ensures; keeps = c.before.before.before.before.before.before.before.reserve.ensures }) c.before.before.before.before.before.before.before.before.before.before.before.before.before.before.before.before.before.before.before.before.before.before.before.before.before.requires c.before.before.before.before.before.before.before.before.before.before.count-else.auto.0 c.before.before.before.before.before.before.before.before.before.before.before.before.before.before.if1.false c.before.before.before.if3.false c.before.if4.false c.block2.ensures
 
 pub in-if-spec : {M : Type 1} → statement M
 in-if-spec =

@@ -1,7 +1,7 @@
 -- `in_mapping` meets its contract.
 -- Assumes nothing.
 use borrow.Author.Rules.{rules}
-use Rattle.trace.specs.Parts.{mapping-left, mapping-right}
+use Rattle.trace.specs.Parts.{mapping_left, mapping_right}
 use Rattle.trace.proofs.in_mapping.Statement.{statement}
 use Rattle.trace.proofs.in_mapping.Tie as tie
 
@@ -21,13 +21,13 @@ value-requires : tie.Need-value-requires
 value-requires c κs = search rules
 
 returns : tie.Need-returns
-returns c = mapping-left c.before.before.before.before.before.before.body.ensures.0 c.before.before.before.before.before.past.ensures.0 c.before.before.before.count-expr.ensures c.before.if1.true c.value.ensures
+returns c = mapping_left c.before.before.before.before.before.before.body.ensures.0 c.before.before.before.before.before.past.ensures.0 c.before.before.before.count-expr.ensures c.before.if1.true c.value.ensures
 
 in-value-requires : tie.Need-in-value-requires
 in-value-requires c κs = search rules
 
 returns-2 : tie.Need-returns-2
-returns-2 c = mapping-right c.before.before.before.before.before.before.body.ensures.0 c.before.before.before.before.before.past.ensures.0 c.before.before.before.before.past2.ensures.0 c.before.before.before.count-expr.ensures c.before.if1.false c.in-value.ensures
+returns-2 c = mapping_right c.before.before.before.before.before.before.body.ensures.0 c.before.before.before.before.before.past.ensures.0 c.before.before.before.before.past2.ensures.0 c.before.before.before.count-expr.ensures c.before.if1.false c.in-value.ensures
 
 pub in-mapping-spec : {M : Type 1} → statement M
 in-mapping-spec =

@@ -1,7 +1,7 @@
 -- `in_while` meets its contract.
 -- Assumes nothing.
 use borrow.Author.Rules.{rules}
-use Rattle.trace.specs.Parts.{while-cond, while-loop}
+use Rattle.trace.specs.Parts.{while_cond, while_loop}
 use Rattle.trace.proofs.in_while.Statement.{statement}
 use Rattle.trace.proofs.in_while.Tie as tie
 
@@ -18,13 +18,13 @@ value-requires : tie.Need-value-requires
 value-requires c κs = search rules
 
 returns : tie.Need-returns
-returns c = while-cond c.before.before.before.before.before.body.ensures.0 c.before.before.before.count-expr.ensures c.before.if1.true c.value.ensures
+returns c = while_cond c.before.before.before.before.before.body.ensures.0 c.before.before.before.count-expr.ensures c.before.if1.true c.value.ensures
 
 in-loop-requires : tie.Need-in-loop-requires
 in-loop-requires c κs = search rules
 
 returns-2 : tie.Need-returns-2
-returns-2 c = while-loop c.before.before.before.before.before.body.ensures.0 c.before.before.before.before.past.ensures.0 c.before.before.before.before.before.before.before.before.before.requires c.before.before.before.count-expr.ensures c.before.if1.false c.in-loop.ensures
+returns-2 c = while_loop c.before.before.before.before.before.body.ensures.0 c.before.before.before.before.past.ensures.0 c.before.before.before.before.before.before.before.before.before.requires c.before.before.before.count-expr.ensures c.before.if1.false c.in-loop.ensures
 
 pub in-while-spec : {M : Type 1} → statement M
 in-while-spec =

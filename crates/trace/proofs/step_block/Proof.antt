@@ -6,7 +6,7 @@ use native.Mathlib.Omega.{arith}
 use lib.ListN.{length-set}
 use borrow.Author.Rules.{rules}
 use Rattle.stmt.proofs.Lists.{goes_on}
-use Rattle.trace.specs.Lists.{Rest, rest_begin, rest-ready, rest-go, rest_in, rest-last, rest_end}
+use Rattle.trace.specs.Lists.{Rest, rest_begin, rest_ready, rest_go, rest_in, rest-last, rest_end}
 use Rattle.trace.proofs.step_block.Statement.{statement}
 use Rattle.trace.proofs.step_block.Tie as tie
 
@@ -41,7 +41,7 @@ slice-read-mark : tie.Need-slice-read-mark invariant-loop decreases-loop
 slice-read-mark c = omega (arith, c.before.before.before.before.loop.invariant.ready.size)
 
 count-stmt-requires : tie.Need-count-stmt-requires invariant-loop decreases-loop
-count-stmt-requires c κs = (rest-ready c.before.before.before.before.before.loop.invariant c.before.before.before.before.before.before.before.before.before.before.before.requires.known.0.small c.before.before.before.before.before.before.before.past.ensures.1 c.before.before.before.before.loop-test.true, omega (arith, c.before.before.before.before.before.before.before.past.ensures.1, c.before.before.before.before.loop-test.true))
+count-stmt-requires c κs = (rest_ready c.before.before.before.before.before.loop.invariant c.before.before.before.before.before.before.before.before.before.before.before.requires.known.0.small c.before.before.before.before.before.before.before.past.ensures.1 c.before.before.before.before.loop-test.true, omega (arith, c.before.before.before.before.before.before.before.past.ensures.1, c.before.before.before.before.loop-test.true))
 
 slice-write-scope : tie.Need-slice-write-scope invariant-loop decreases-loop
 slice-write-scope c = omega (arith, c.before.before.before.before.before.before.before.before.before.before.loop.invariant.ready.size, c.before.before.before.before.count-stmt.auto.0)
@@ -59,7 +59,7 @@ loop-less : tie.Need-loop-smaller invariant-loop decreases-loop
 loop-less c = omega (arith, goes_on c.before.before.before.before.before.before.before.before.before.before.before.before.before.before.before.before.args.img.now c.before.before.before.before.before.before.before.before.before.before.loop.p c.before.before.before.before.before.before.before.before.before.before.before.before.past.result c.before.before.before.before.before.before.before.before.before.loop-test.true c.before.before.before.before.before.before.before.before.before.before.before.before.past.ensures.1, c.before.before.before.before.before.before.before.before.past2.ensures.0)
 
 loop-again : tie.Need-loop-preserved invariant-loop decreases-loop
-loop-again c = rest-go c.before.before.before.before.before.before.before.before.before.before.loop.invariant c.before.before.before.before.before.before.before.before.before.before.before.before.before.before.before.before.requires.known.0.small c.before.before.before.before.before.before.before.before.before.before.before.before.past.ensures.1 c.before.before.before.before.before.before.before.before.before.loop-test.true c.before.before.before.before.before.before.before.before.past2.ensures.0 c.before.before.before.before.count-stmt.ensures c.before.before.before.before.count-stmt.auto.0 c.if2.false
+loop-again c = rest_go c.before.before.before.before.before.before.before.before.before.before.loop.invariant c.before.before.before.before.before.before.before.before.before.before.before.before.before.before.before.before.requires.known.0.small c.before.before.before.before.before.before.before.before.before.before.before.before.past.ensures.1 c.before.before.before.before.before.before.before.before.before.loop-test.true c.before.before.before.before.before.before.before.before.past2.ensures.0 c.before.before.before.before.count-stmt.ensures c.before.before.before.before.count-stmt.auto.0 c.if2.false
 
 own-requires : tie.Need-own-requires invariant-loop decreases-loop
 own-requires c κs = search rules

@@ -7,7 +7,7 @@ use lib.ListN.{length-set}
 use lib.Seq.{get_or-set_same}
 use borrow.Author.Tests.{leb-false}
 use Rattle.codegen.proofs.Pieces.{ready}
-use Rattle.why.specs.Answers.{entry-own, exit_own, inside}
+use Rattle.why.specs.Answers.{entry_own, exit_own, inside}
 use borrow.Author.Rules.{rules}
 use Rattle.why.proofs.in_function.Statement.{statement}
 use Rattle.why.proofs.in_function.Tie as tie
@@ -40,7 +40,7 @@ same_length : tie.Need-same-length
 same_length c = c.before.before.before.before.before.before.before.before.bind-params.auto.0 ∙ length-set c.before.before.before.before.before.before.before.before.before.before.before.before.before.before.before.args.scope.now 0 0
 
 returns : tie.Need-returns
-returns c = rw c.own.ensures (entry-own (record { takes = c.before.before.before.before.before.before.before.before.before.before.before.alloc-reg.ensures; pops = c.before.before.before.before.before.before.before.before.before.before.reserve.ensures; bound = c.before.before.before.before.before.before.before.before.bind-params.ensures; params = c.before.before.before.before.popped.ensures; pushes = c.before.before.before.reserve2.ensures }) c.before.if1.true)
+returns c = rw c.own.ensures (entry_own (record { takes = c.before.before.before.before.before.before.before.before.before.before.before.alloc-reg.ensures; pops = c.before.before.before.before.before.before.before.before.before.before.reserve.ensures; bound = c.before.before.before.before.before.before.before.before.bind-params.ensures; params = c.before.before.before.before.popped.ensures; pushes = c.before.before.before.reserve2.ensures }) c.before.if1.true)
 
 among-last-requires : tie.Need-among-last-requires
 among-last-requires c κs = search rules

@@ -1,7 +1,7 @@
 -- all_agree meets its contract.
 -- Assumes nothing.
 use Prim.Native.Nat.{ℕ, ◌-◌, ◌≤◌, ◌<◌}
-use Rattle.ambiguous.proofs.Agreed.{one-struct, agreed}
+use Rattle.ambiguous.proofs.Agreed.{one_struct, agreed}
 use Rattle.ambiguous.specs.Slots.{Held}
 use Rattle.records.specs.Names.{never}
 use Rattle.rules.specs.Read.{second}
@@ -43,7 +43,7 @@ loop-less : tie.Need-loop-smaller invariant-loop decreases-loop
 loop-less c = omega (arith, c.before.before.before.before.before.loop-test.true)
 
 loop-again : tie.Need-loop-preserved invariant-loop decreases-loop
-loop-again c = (omega arith, one-struct c.before.before.before.before.before.before.before.before.before.before.before.before.args.img.now c.before.before.before.before.before.before.loop.i c.before.before.before.before.before.before.loop.invariant.1 (c.before.note-fields.ensures c.if1.true).0 (rw (c.before.before.before.second.ensures, c.before.before.before.before.struct-place.ensures c.before.before.before.before.before.before.before.before.before.before.before.before.args.img.now c.before.before.before.before.before.before.before.before.before.before.before.before.requires (rw (c.before.before.before.before.before.before.before.struct-count.ensures c.before.before.before.before.before.before.before.before.before.before.before.before.args.img.now c.before.before.before.before.before.before.before.before.before.before.before.before.requires) at c.before.before.before.before.before.loop-test.true)) at (c.before.note-fields.ensures c.if1.true).1))
+loop-again c = (omega arith, one_struct c.before.before.before.before.before.before.before.before.before.before.before.before.args.img.now c.before.before.before.before.before.before.loop.i c.before.before.before.before.before.before.loop.invariant.1 (c.before.note-fields.ensures c.if1.true).0 (rw (c.before.before.before.second.ensures, c.before.before.before.before.struct-place.ensures c.before.before.before.before.before.before.before.before.before.before.before.before.args.img.now c.before.before.before.before.before.before.before.before.before.before.before.before.requires (rw (c.before.before.before.before.before.before.before.struct-count.ensures c.before.before.before.before.before.before.before.before.before.before.before.before.args.img.now c.before.before.before.before.before.before.before.before.before.before.before.before.requires) at c.before.before.before.before.before.loop-test.true)) at (c.before.note-fields.ensures c.if1.true).1))
 
 returns : tie.Need-returns invariant-loop decreases-loop
 returns c = λ e. never e

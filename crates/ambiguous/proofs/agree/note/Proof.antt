@@ -1,6 +1,6 @@
 -- note meets its contract.
 -- Assumes nothing.
-use Rattle.ambiguous.proofs.Agreed.{put-there, was-there}
+use Rattle.ambiguous.proofs.Agreed.{put-there, was_there}
 use Rattle.records.specs.Names.{never}
 use lib.ListN.{length-set}
 use native.Mathlib.Omega.{arith}
@@ -66,7 +66,7 @@ same-length-2 : tie.Need-same-length-2
 same-length-2 c = search rules
 
 returns-2 : tie.Need-returns-2
-returns-2 c = λ e. was-there c.before.before.before.before.before.before.before.before.args.seen.now c.before.before.before.before.before.before.before.before.args.key c.before.before.before.before.before.before.before.before.args.n _ (c.before.before.before.before.before.slot_of.ensures _ c.before.before.before.s.given.1) c.if1.false e
+returns-2 c = λ e. was_there c.before.before.before.before.before.before.before.before.args.seen.now c.before.before.before.before.before.before.before.before.args.key c.before.before.before.before.before.before.before.before.args.n _ (c.before.before.before.before.before.slot_of.ensures _ c.before.before.before.s.given.1) c.if1.false e
 
 same-length-3 : tie.Need-same-length-3
 same-length-3 c = search rules

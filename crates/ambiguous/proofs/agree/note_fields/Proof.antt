@@ -1,7 +1,7 @@
 -- note_fields meets its contract.
 -- Assumes nothing.
 use Prim.Native.Nat.{◌-◌, ◌≤◌}
-use Rattle.ambiguous.proofs.Agreed.{ext_refl, ext_trans, Told, begin-fields, end-fields, end-count, one_field}
+use Rattle.ambiguous.proofs.Agreed.{ext_refl, ext_trans, Told, begin_fields, end-fields, end-count, one_field}
 use Rattle.ambiguous.specs.Slots.{Extends}
 use Rattle.records.specs.Names.{never}
 use borrow.Author.Tests.{ltb-true, ltb-false}
@@ -25,7 +25,7 @@ body-requires : tie.Need-body-requires invariant-loop decreases-loop
 body-requires c κs = search rules
 
 loop-holds : tie.Need-loop-init invariant-loop decreases-loop
-loop-holds c = (refl, (omega arith, (ext_refl c.before.before.before.before.args.seen.now, rw (c.body.ensures.0, c.before.past.ensures.0) (begin-fields c.before.before.before.before.args.img.now c.before.before.before.before.args.l c.before.before.before.before.args.seen.now))))
+loop-holds c = (refl, (omega arith, (ext_refl c.before.before.before.before.args.seen.now, rw (c.body.ensures.0, c.before.past.ensures.0) (begin_fields c.before.before.before.before.args.img.now c.before.before.before.before.args.l c.before.before.before.before.args.seen.now))))
 
 body-requires-2 : tie.Need-body-requires-2 invariant-loop decreases-loop
 body-requires-2 c κs = search rules

@@ -2,7 +2,7 @@
 -- Assumes nothing.
 use mathlib.Core.Path.{◌∙◌, sym, ap}
 use Rattle.notes.specs.Notes.{note_of}
-use Rattle.notes.specs.Left.{clear-one, clear_none}
+use Rattle.notes.specs.Left.{clear_one, clear_none}
 use Rattle.ambiguous.specs.Spots.{unsure}
 use borrow.Author.Rules.{rules}
 use Rattle.ambiguous.proofs.apart.is_ambiguous_at.Statement.{statement}
@@ -22,7 +22,7 @@ is-ambiguous-requires c κs = c.before.before.before.before.before.before.requir
 
 returns : tie.Need-returns
 unfolding note_of
-returns c = sym (rw (← c.before.before.before.before.before.before.requires.1) at (clear-one c.before.before.before.before.before.before.args.img.now c.before.before.before.before.before.before.args.notes.now c.before.before.before.before.before.before.requires.0.1 c.before.before.before.before.before.before.args.at _ (sym c.before.before.get.ensures ∙ ap note_of c.enum_told.given.1)))
+returns c = sym (rw (← c.before.before.before.before.before.before.requires.1) at (clear_one c.before.before.before.before.before.before.args.img.now c.before.before.before.before.before.before.args.notes.now c.before.before.before.before.before.before.requires.0.1 c.before.before.before.before.before.before.args.at _ (sym c.before.before.get.ensures ∙ ap note_of c.enum_told.given.1)))
 
 returns-2 : tie.Need-returns-2
 unfolding note_of unsure

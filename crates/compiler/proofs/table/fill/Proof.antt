@@ -9,7 +9,7 @@ use native.Mathlib.Omega.{arith}
 use lib.ListN.{length, get_or}
 use Rattle.rules.specs.Lent.{over, spread}
 use Rattle.rules.specs.Read.{function_at, fourth}
-use Rattle.lent.specs.Over.{overAt, length_over, spread-more}
+use Rattle.lent.specs.Over.{over_at, length_over, spread-more}
 use Rattle.tables.specs.Listed.{functions_in}
 use Rattle.tables.specs.Carried.{few}
 use Rattle.compiler.specs.Made.{three, below, length_below}
@@ -31,11 +31,11 @@ each img F k = refl
 
 -- one row more
 next : (img F t₀ t : List ℕ) (k place first params : ℕ) → place ≡ get_or (functions_in img) k 0 → first ≡ get_or F k 0 → params ≡ length (function_at img place).params
-    → t ≡ over (spread (three img F) (below k)) t₀ → overAt (3 * k) (place ∷ first ∷ params ∷ []) t ≡ over (spread (three img F) (below (k + 1))) t₀
+    → t ≡ over (spread (three img F) (below k)) t₀ → over_at (3 * k) (place ∷ first ∷ params ∷ []) t ≡ over (spread (three img F) (below (k + 1))) t₀
 unfolding three below
 next img F t₀ t k place first params e f g h =
     rw (g, f, e, h, add-one k)
-    (ap (λ (n : ℕ). overAt (3 * n) (three img F k) (over (spread (three img F) (below k)) t₀)) (sym (length_below k)) ∙ spread-more (three img F) 3 (each img F) (below k) k t₀)
+    (ap (λ (n : ℕ). over_at (3 * n) (three img F k) (over (spread (three img F) (below k)) t₀)) (sym (length_below k)) ∙ spread-more (three img F) 3 (each img F) (below k) k t₀)
 
 all : (img F t₀ : List ℕ) {k n : ℕ} → k ≡ n → over (spread (three img F) (below k)) t₀ ≡ over (spread (three img F) (below n)) t₀
 all img F t₀ e = rw e refl

@@ -5,15 +5,15 @@ use mathlib.Core.List.{List, [], ◌∷◌}
 use Prim.Native.Nat.{ℕ, ◌+◌, ◌*◌}
 use native.Mathlib.Omega.{arith}
 use lib.ListN.{set, length-set}
-use Rattle.lent.specs.Over.{overAt, overAt-first, overAt-next, overAt-nil}
+use Rattle.lent.specs.Over.{over_at, over_at_first, over_at_next, over_at_nil}
 use borrow.Author.Rules.{rules}
 use Rattle.compiler.proofs.table.write.Statement.{statement}
 use Rattle.compiler.proofs.table.write.Tie as tie
 use Rattle.compiler.proofs.table.write.Reads as reads
 use Rattle.compiler.proofs.table.write.Lts as lts
 
-stores : (k : ℕ) (a b c : ℕ) (s : List ℕ) → set (set (set s k a) (k + 1) b) (k + 2) c ≡ overAt k (a ∷ b ∷ c ∷ []) s
-stores k a b c s = sym (overAt-first k a _ s ∙ overAt-next k 1 b _ _ ∙ overAt-next k 2 c _ _ ∙ overAt-nil (k + 3) _)
+stores : (k : ℕ) (a b c : ℕ) (s : List ℕ) → set (set (set s k a) (k + 1) b) (k + 2) c ≡ over_at k (a ∷ b ∷ c ∷ []) s
+stores k a b c s = sym (over_at_first k a _ s ∙ over_at_next k 1 b _ _ ∙ over_at_next k 2 c _ _ ∙ over_at_nil (k + 3) _)
 
 -- src/table.rt:25:14
 mul_at : tie.Need-overflow-mul-at

@@ -57,7 +57,7 @@ use Rattle.entries.specs.declared.Entry.{Entry}
 use Rattle.entries.specs.declared.build.Made.{Made}
 use Rattle.entries.specs.Entries.{blank, numbers_of}
 use Rattle.entries.specs.Rows.{entries_of}
-use Rattle.entries.specs.Endings.{Left, Fitting, accepted, refused-one}
+use Rattle.entries.specs.Endings.{Left, Fitting, accepted, refused_one}
 use Rattle.entries.proofs.Arrays.{word, words, Words, plainly, Parts, into, back}
 use Rattle.entries.specs.contracts.Entry as T
 use Rattle.entries.specs.contracts.build.Made as P
@@ -349,7 +349,7 @@ module _ {M : Type 1} {𝓤 : Ura M} (𝓛 : Logic 𝓤) (mem : Memory → SProp
           land_last ! (from ! (stop !)) (init ! 11 refl ((Nothing-Lawful 𝓛).typed u _ is).0) $ exec ! C Λ En piece.t-7 (at_ret En Post) $
           forget ! 7 refl $ forget ! 9 refl $ forget ! 11 refl $ forget ! 27 refl $ forget ! 41 refl $ forget ! 43 refl $ forget ! 45 refl $
           keep ! (4 ∷ 1 ∷ 6 ∷ 5 ∷ 2 ∷ 7 ∷ 8 ∷ 9 ∷ 10 ∷ 11 ∷ 12 ∷ 13 ∷ 14 ∷ 15 ∷ 16 ∷ 17 ∷ 18 ∷ 19 ∷ 20 ∷ 21 ∷ 22 ∷ 23 ∷ 24 ∷ 25 ∷ 26 ∷ 27 ∷ 28 ∷ 29 ∷ 30 ∷ 31 ∷ 32 ∷ 33 ∷ 34 ∷ 35 ∷ 36 ∷ 37 ∷ 38 ∷ 39 ∷ 40 ∷ 41 ∷ 42 ∷ 43 ∷ 44 ∷ 45 ∷ 46 ∷ 47 ∷ 48 ∷ []) $
-          ends ws.0 lw (subst (λ (l : List Entry). Built rules xi.now xc.now (numbers_of ys) m.answer zs (numbers_of l)) (sym e) (refused-one rules xi.now xc.now ys m.answer zs m.firsts m.tables left (numbered Some-number))))))))))
+          ends ws.0 lw (subst (λ (l : List Entry). Built rules xi.now xc.now (numbers_of ys) m.answer zs (numbers_of l)) (sym e) (refused_one rules xi.now xc.now ys m.answer zs m.firsts m.tables left (numbered Some-number))))))))))
         where
           numbered : Holds (not (eqb m.answer.refusal 0)) → m.answer.refusal ≡ 0 → ⊥
           numbered h e = T_not (eqb m.answer.refusal 0) h (subst (λ (k : ℕ). Holds (eqb k 0)) (sym e) tt)

@@ -1,5 +1,5 @@
 -- The needs of `gen_binary`.
-use Rattle.expr.proofs.Walk.{binary-value}
+use Rattle.expr.proofs.Walk.{binary_value}
 use Rattle.rules.specs.Emit.{opcode}
 use Rattle.rules.specs.Read.{bin_op_of}
 use mathlib.Core.Path.{ap, ◌∙◌}
@@ -40,4 +40,4 @@ pub gen-binary-same-length-2 : (t : ℕ) → gen-binary-lts.Need-same-length-2 (
 gen-binary-same-length-2 t c = search rules
 
 pub gen-binary-returns : (t : ℕ) → gen-binary-lts.Need-returns (gen-binary-told t) (gen-binary-at t) gen-binary.Post
-gen-binary-returns t c = binary-value c.before.before.before.before.before.before.before.before.before.before.before.before.before.before.before.before.before.before.before.before.before.before.before.before.before.before.before.before.before.before.before.args.img.now c.before.before.before.before.before.before.before.before.before.before.before.before.before.before.before.before.before.before.before.before.before.before.before.before.before.before.before.before.before.before.before.args.scope.now c.before.before.before.before.before.before.before.before.before.before.before.before.before.before.before.before.before.before.before.before.before.before.before.before.before.before.before.before.before.before.before.args.rules c.before.before.before.before.before.before.before.before.before.before.before.before.before.before.before.before.before.before.before.before.before.before.before.before.before.before.before.before.before.before.before.args.st _ _ _ _ _ _ _ _ _ _ _ _ _ c.before.before.before.before.before.before.before.before.before.before.before.before.before.before.before.before.before.before.before.before.before.before.before.before.before.body.ensures.0 c.before.before.before.before.before.before.before.before.before.before.before.before.before.before.before.before.before.before.before.before.before.before.before.before.past.ensures.0 c.before.before.before.before.before.before.before.before.before.before.before.before.before.before.before.before.before.before.before.before.before.before.before.past2.ensures.0 (c.before.before.before.before.before.before.before.opcode.ensures ∙ ap (λ (k : ℕ). opcode (bin_op_of k)) c.before.before.before.before.before.before.before.before.op.ensures.0) c.before.before.before.before.before.before.before.before.before.before.before.before.before.before.before.before.before.before.before.before.gen-expr.ensures c.before.before.before.before.before.before.before.before.before.before.before.before.before.gen-expr2.ensures c.before.before.before.before.combine.ensures
+gen-binary-returns t c = binary_value c.before.before.before.before.before.before.before.before.before.before.before.before.before.before.before.before.before.before.before.before.before.before.before.before.before.before.before.before.before.before.before.args.img.now c.before.before.before.before.before.before.before.before.before.before.before.before.before.before.before.before.before.before.before.before.before.before.before.before.before.before.before.before.before.before.before.args.scope.now c.before.before.before.before.before.before.before.before.before.before.before.before.before.before.before.before.before.before.before.before.before.before.before.before.before.before.before.before.before.before.before.args.rules c.before.before.before.before.before.before.before.before.before.before.before.before.before.before.before.before.before.before.before.before.before.before.before.before.before.before.before.before.before.before.before.args.st _ _ _ _ _ _ _ _ _ _ _ _ _ c.before.before.before.before.before.before.before.before.before.before.before.before.before.before.before.before.before.before.before.before.before.before.before.before.before.body.ensures.0 c.before.before.before.before.before.before.before.before.before.before.before.before.before.before.before.before.before.before.before.before.before.before.before.before.past.ensures.0 c.before.before.before.before.before.before.before.before.before.before.before.before.before.before.before.before.before.before.before.before.before.before.before.past2.ensures.0 (c.before.before.before.before.before.before.before.opcode.ensures ∙ ap (λ (k : ℕ). opcode (bin_op_of k)) c.before.before.before.before.before.before.before.before.op.ensures.0) c.before.before.before.before.before.before.before.before.before.before.before.before.before.before.before.before.before.before.before.before.gen-expr.ensures c.before.before.before.before.before.before.before.before.before.before.before.before.before.gen-expr2.ensures c.before.before.before.before.combine.ensures

@@ -1,5 +1,5 @@
 -- The needs of `gen_call`.
-use Rattle.expr.proofs.Walk.{call-value, as-sender, as-nonce, as_number}
+use Rattle.expr.proofs.Walk.{call_value, as_sender, as_nonce, as_number}
 use Rattle.expr.specs.Names.{builtin_of}
 use Rattle.rules.specs.Builtins.{Builtin}
 use mathlib.Core.Option.{none, some}
@@ -60,7 +60,7 @@ gen-call-same-length-2 t c = search rules
 
 pub gen-call-returns : (t : ℕ) → gen-call-lts.Need-returns (gen-call-told t) (gen-call-at t) gen-call.Post
 unfolding builtin_of
-gen-call-returns t c = call-value c.before.before.before.before.before.before.before.before.before.before.before.before.before.before.before.before.args.img.now c.before.before.before.before.before.before.before.before.before.before.before.before.before.before.before.before.args.scope.now c.before.before.before.before.before.before.before.before.before.before.before.before.before.before.before.before.args.rules c.before.before.before.before.before.before.before.before.before.before.before.before.before.before.before.before.args.st _ _ _ _ _ _ (some Builtin.poseidon) c.before.before.before.before.before.before.before.before.before.before.body.ensures.0 (sym (ap builtin_of c.before.before.before.before.before.before.before.enum_told.given.1) ∙ c.before.before.before.before.before.before.before.before.before.builtin-named.ensures) c.before.before.before.before.gen-poseidon.ensures
+gen-call-returns t c = call_value c.before.before.before.before.before.before.before.before.before.before.before.before.before.before.before.before.args.img.now c.before.before.before.before.before.before.before.before.before.before.before.before.before.before.before.before.args.scope.now c.before.before.before.before.before.before.before.before.before.before.before.before.before.before.before.before.args.rules c.before.before.before.before.before.before.before.before.before.before.before.before.before.before.before.before.args.st _ _ _ _ _ _ (some Builtin.poseidon) c.before.before.before.before.before.before.before.before.before.before.body.ensures.0 (sym (ap builtin_of c.before.before.before.before.before.before.before.enum_told.given.1) ∙ c.before.before.before.before.before.before.before.before.before.builtin-named.ensures) c.before.before.before.before.gen-poseidon.ensures
 
 pub gen-call-same-length-3 : (t : ℕ) → gen-call-lts.Need-same-length-3 (gen-call-told t) (gen-call-at t) gen-call.Post
 gen-call-same-length-3 t c = search rules
@@ -70,7 +70,7 @@ gen-call-same-length-4 t c = search rules
 
 pub gen-call-returns-2 : (t : ℕ) → gen-call-lts.Need-returns-2 (gen-call-told t) (gen-call-at t) gen-call.Post
 unfolding builtin_of
-gen-call-returns-2 t c = call-value c.before.before.before.before.before.before.before.before.before.before.before.before.before.before.before.before.args.img.now c.before.before.before.before.before.before.before.before.before.before.before.before.before.before.before.before.args.scope.now c.before.before.before.before.before.before.before.before.before.before.before.before.before.before.before.before.args.rules c.before.before.before.before.before.before.before.before.before.before.before.before.before.before.before.before.args.st _ _ _ _ _ _ (some Builtin.sender) c.before.before.before.before.before.before.before.before.before.before.body.ensures.0 (sym (ap builtin_of c.before.before.before.before.before.before.before.enum-told2.given.1) ∙ c.before.before.before.before.before.before.before.before.before.builtin-named.ensures) (as-sender c.before.before.before.before.before.before.before.before.before.before.before.before.before.before.before.before.args.img.now c.before.before.before.before.before.before.before.before.before.before.before.before.before.before.before.before.args.scope.now c.before.before.before.before.before.before.before.before.before.before.before.before.before.before.before.before.args.rules c.before.before.before.before.before.before.before.before.before.before.before.before.before.before.before.before.args.st _ _ _ _ _ c.before.before.before.before.gen-syscall.ensures)
+gen-call-returns-2 t c = call_value c.before.before.before.before.before.before.before.before.before.before.before.before.before.before.before.before.args.img.now c.before.before.before.before.before.before.before.before.before.before.before.before.before.before.before.before.args.scope.now c.before.before.before.before.before.before.before.before.before.before.before.before.before.before.before.before.args.rules c.before.before.before.before.before.before.before.before.before.before.before.before.before.before.before.before.args.st _ _ _ _ _ _ (some Builtin.sender) c.before.before.before.before.before.before.before.before.before.before.body.ensures.0 (sym (ap builtin_of c.before.before.before.before.before.before.before.enum-told2.given.1) ∙ c.before.before.before.before.before.before.before.before.before.builtin-named.ensures) (as_sender c.before.before.before.before.before.before.before.before.before.before.before.before.before.before.before.before.args.img.now c.before.before.before.before.before.before.before.before.before.before.before.before.before.before.before.before.args.scope.now c.before.before.before.before.before.before.before.before.before.before.before.before.before.before.before.before.args.rules c.before.before.before.before.before.before.before.before.before.before.before.before.before.before.before.before.args.st _ _ _ _ _ c.before.before.before.before.gen-syscall.ensures)
 
 pub gen-call-same-length-5 : (t : ℕ) → gen-call-lts.Need-same-length-5 (gen-call-told t) (gen-call-at t) gen-call.Post
 gen-call-same-length-5 t c = search rules
@@ -80,7 +80,7 @@ gen-call-same-length-6 t c = search rules
 
 pub gen-call-returns-3 : (t : ℕ) → gen-call-lts.Need-returns-3 (gen-call-told t) (gen-call-at t) gen-call.Post
 unfolding builtin_of
-gen-call-returns-3 t c = call-value c.before.before.before.before.before.before.before.before.before.before.before.before.before.before.before.before.args.img.now c.before.before.before.before.before.before.before.before.before.before.before.before.before.before.before.before.args.scope.now c.before.before.before.before.before.before.before.before.before.before.before.before.before.before.before.before.args.rules c.before.before.before.before.before.before.before.before.before.before.before.before.before.before.before.before.args.st _ _ _ _ _ _ (some Builtin.nonce) c.before.before.before.before.before.before.before.before.before.before.body.ensures.0 (sym (ap builtin_of c.before.before.before.before.before.before.before.enum-told3.given.1) ∙ c.before.before.before.before.before.before.before.before.before.builtin-named.ensures) (as-nonce c.before.before.before.before.before.before.before.before.before.before.before.before.before.before.before.before.args.img.now c.before.before.before.before.before.before.before.before.before.before.before.before.before.before.before.before.args.scope.now c.before.before.before.before.before.before.before.before.before.before.before.before.before.before.before.before.args.rules c.before.before.before.before.before.before.before.before.before.before.before.before.before.before.before.before.args.st _ _ _ _ _ c.before.before.before.before.gen-syscall2.ensures)
+gen-call-returns-3 t c = call_value c.before.before.before.before.before.before.before.before.before.before.before.before.before.before.before.before.args.img.now c.before.before.before.before.before.before.before.before.before.before.before.before.before.before.before.before.args.scope.now c.before.before.before.before.before.before.before.before.before.before.before.before.before.before.before.before.args.rules c.before.before.before.before.before.before.before.before.before.before.before.before.before.before.before.before.args.st _ _ _ _ _ _ (some Builtin.nonce) c.before.before.before.before.before.before.before.before.before.before.body.ensures.0 (sym (ap builtin_of c.before.before.before.before.before.before.before.enum-told3.given.1) ∙ c.before.before.before.before.before.before.before.before.before.builtin-named.ensures) (as_nonce c.before.before.before.before.before.before.before.before.before.before.before.before.before.before.before.before.args.img.now c.before.before.before.before.before.before.before.before.before.before.before.before.before.before.before.before.args.scope.now c.before.before.before.before.before.before.before.before.before.before.before.before.before.before.before.before.args.rules c.before.before.before.before.before.before.before.before.before.before.before.before.before.before.before.before.args.st _ _ _ _ _ c.before.before.before.before.gen-syscall2.ensures)
 
 pub gen-call-same-length-7 : (t : ℕ) → gen-call-lts.Need-same-length-7 (gen-call-told t) (gen-call-at t) gen-call.Post
 gen-call-same-length-7 t c = search rules
@@ -90,7 +90,7 @@ gen-call-same-length-8 t c = search rules
 
 pub gen-call-returns-4 : (t : ℕ) → gen-call-lts.Need-returns-4 (gen-call-told t) (gen-call-at t) gen-call.Post
 unfolding builtin_of
-gen-call-returns-4 t c = call-value c.before.before.before.before.before.before.before.before.before.before.before.before.before.before.before.before.args.img.now c.before.before.before.before.before.before.before.before.before.before.before.before.before.before.before.before.args.scope.now c.before.before.before.before.before.before.before.before.before.before.before.before.before.before.before.before.args.rules c.before.before.before.before.before.before.before.before.before.before.before.before.before.before.before.before.args.st _ _ _ _ _ _ (some Builtin.block-number) c.before.before.before.before.before.before.before.before.before.before.body.ensures.0 (sym (ap builtin_of c.before.before.before.before.before.before.before.enum-told4.given.1) ∙ c.before.before.before.before.before.before.before.before.before.builtin-named.ensures) (as_number c.before.before.before.before.before.before.before.before.before.before.before.before.before.before.before.before.args.img.now c.before.before.before.before.before.before.before.before.before.before.before.before.before.before.before.before.args.scope.now c.before.before.before.before.before.before.before.before.before.before.before.before.before.before.before.before.args.rules c.before.before.before.before.before.before.before.before.before.before.before.before.before.before.before.before.args.st _ _ _ _ _ c.before.before.before.before.gen-syscall3.ensures)
+gen-call-returns-4 t c = call_value c.before.before.before.before.before.before.before.before.before.before.before.before.before.before.before.before.args.img.now c.before.before.before.before.before.before.before.before.before.before.before.before.before.before.before.before.args.scope.now c.before.before.before.before.before.before.before.before.before.before.before.before.before.before.before.before.args.rules c.before.before.before.before.before.before.before.before.before.before.before.before.before.before.before.before.args.st _ _ _ _ _ _ (some Builtin.block-number) c.before.before.before.before.before.before.before.before.before.before.body.ensures.0 (sym (ap builtin_of c.before.before.before.before.before.before.before.enum-told4.given.1) ∙ c.before.before.before.before.before.before.before.before.before.builtin-named.ensures) (as_number c.before.before.before.before.before.before.before.before.before.before.before.before.before.before.before.before.args.img.now c.before.before.before.before.before.before.before.before.before.before.before.before.before.before.before.before.args.scope.now c.before.before.before.before.before.before.before.before.before.before.before.before.before.before.before.before.args.rules c.before.before.before.before.before.before.before.before.before.before.before.before.before.before.before.before.args.st _ _ _ _ _ c.before.before.before.before.gen-syscall3.ensures)
 
 pub gen-call-same-length-9 : (t : ℕ) → gen-call-lts.Need-same-length-9 (gen-call-told t) (gen-call-at t) gen-call.Post
 gen-call-same-length-9 t c = search rules
@@ -100,7 +100,7 @@ gen-call-same-length-10 t c = search rules
 
 pub gen-call-returns-5 : (t : ℕ) → gen-call-lts.Need-returns-5 (gen-call-told t) (gen-call-at t) gen-call.Post
 unfolding builtin_of
-gen-call-returns-5 t c = call-value c.before.before.before.before.before.before.before.before.before.before.before.before.before.before.before.before.args.img.now c.before.before.before.before.before.before.before.before.before.before.before.before.before.before.before.before.args.scope.now c.before.before.before.before.before.before.before.before.before.before.before.before.before.before.before.before.args.rules c.before.before.before.before.before.before.before.before.before.before.before.before.before.before.before.before.args.st _ _ _ _ _ _ (some Builtin.merkle) c.before.before.before.before.before.before.before.before.before.before.body.ensures.0 (sym (ap builtin_of c.before.before.before.before.before.before.before.enum-told5.given.1) ∙ c.before.before.before.before.before.before.before.before.before.builtin-named.ensures) c.before.before.before.before.gen-merkle.ensures
+gen-call-returns-5 t c = call_value c.before.before.before.before.before.before.before.before.before.before.before.before.before.before.before.before.args.img.now c.before.before.before.before.before.before.before.before.before.before.before.before.before.before.before.before.args.scope.now c.before.before.before.before.before.before.before.before.before.before.before.before.before.before.before.before.args.rules c.before.before.before.before.before.before.before.before.before.before.before.before.before.before.before.before.args.st _ _ _ _ _ _ (some Builtin.merkle) c.before.before.before.before.before.before.before.before.before.before.body.ensures.0 (sym (ap builtin_of c.before.before.before.before.before.before.before.enum-told5.given.1) ∙ c.before.before.before.before.before.before.before.before.before.builtin-named.ensures) c.before.before.before.before.gen-merkle.ensures
 
 pub gen-call-same-length-11 : (t : ℕ) → gen-call-lts.Need-same-length-11 (gen-call-told t) (gen-call-at t) gen-call.Post
 gen-call-same-length-11 t c = search rules
@@ -110,4 +110,4 @@ gen-call-same-length-12 t c = search rules
 
 pub gen-call-returns-6 : (t : ℕ) → gen-call-lts.Need-returns-6 (gen-call-told t) (gen-call-at t) gen-call.Post
 unfolding builtin_of
-gen-call-returns-6 t c = call-value c.before.before.before.before.before.before.before.before.before.before.before.before.before.before.before.before.args.img.now c.before.before.before.before.before.before.before.before.before.before.before.before.before.before.before.before.args.scope.now c.before.before.before.before.before.before.before.before.before.before.before.before.before.before.before.before.args.rules c.before.before.before.before.before.before.before.before.before.before.before.before.before.before.before.before.args.st _ _ _ _ _ _ (none) c.before.before.before.before.before.before.before.before.before.before.body.ensures.0 (sym (ap builtin_of c.before.before.before.before.before.before.before.enum-told6.given.1) ∙ c.before.before.before.before.before.before.before.before.before.builtin-named.ensures) c.before.before.before.before.gen-user.ensures
+gen-call-returns-6 t c = call_value c.before.before.before.before.before.before.before.before.before.before.before.before.before.before.before.before.args.img.now c.before.before.before.before.before.before.before.before.before.before.before.before.before.before.before.before.args.scope.now c.before.before.before.before.before.before.before.before.before.before.before.before.before.before.before.before.args.rules c.before.before.before.before.before.before.before.before.before.before.before.before.before.before.before.before.args.st _ _ _ _ _ _ (none) c.before.before.before.before.before.before.before.before.before.before.body.ensures.0 (sym (ap builtin_of c.before.before.before.before.before.before.before.enum-told6.given.1) ∙ c.before.before.before.before.before.before.before.before.before.builtin-named.ensures) c.before.before.before.before.gen-user.ensures

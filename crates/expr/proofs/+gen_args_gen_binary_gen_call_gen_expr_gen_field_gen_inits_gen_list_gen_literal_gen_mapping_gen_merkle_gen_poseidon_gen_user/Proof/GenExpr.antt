@@ -1,5 +1,5 @@
 -- The needs of `gen_expr`.
-use Rattle.expr.proofs.Walk.{at_zero, kind_other, no_value, other-value, by_kind}
+use Rattle.expr.proofs.Walk.{at_zero, kind_other, no_value, other_value, by_kind}
 use Rattle.rules.specs.Read.{kInt, kIdent, kStorage, kMapping, kAccess, kLiteral, kBinary, kCall, kOther, kind_of}
 use Rattle.rules.specs.Bytes.{pick}
 use mathlib.Core.Path.{ap}
@@ -136,4 +136,4 @@ gen-expr-returns-9 t c = by_kind c.before.before.before.before.before.before.bef
 
 pub gen-expr-returns-10 : (t : ℕ) → gen-expr-lts.Need-returns-10 (gen-expr-told t) (gen-expr-at t) gen-expr.Post
 unfolding kind_of pick
-gen-expr-returns-10 t c = by_kind c.before.before.before.before.before.before.before.before.before.args.img.now c.before.before.before.before.before.before.before.before.before.args.scope.now c.before.before.before.before.before.before.before.before.before.args.rules c.before.before.before.before.before.before.before.before.before.args.st _ _ _ _ _ _ kOther c.before.before.before.if1.false c.before.before.kind.ensures.0 (kind_other c.before.before.kind.result c.before.match.rest.0.0.0.0.0.0.0.1 c.before.match.rest.0.0.0.0.0.0.1 c.before.match.rest.0.0.0.0.0.1 c.before.match.rest.0.0.0.0.1 c.before.match.rest.0.0.0.1 c.before.match.rest.0.0.1 c.before.match.rest.0.1 c.before.match.rest.1) (other-value c.before.before.before.before.before.before.before.before.before.args.img.now c.before.before.before.before.before.before.before.before.before.args.scope.now c.before.before.before.before.before.before.before.before.before.args.rules c.before.before.before.before.before.before.before.before.before.args.st _ _ _ _ c.with2.ensures)
+gen-expr-returns-10 t c = by_kind c.before.before.before.before.before.before.before.before.before.args.img.now c.before.before.before.before.before.before.before.before.before.args.scope.now c.before.before.before.before.before.before.before.before.before.args.rules c.before.before.before.before.before.before.before.before.before.args.st _ _ _ _ _ _ kOther c.before.before.before.if1.false c.before.before.kind.ensures.0 (kind_other c.before.before.kind.result c.before.match.rest.0.0.0.0.0.0.0.1 c.before.match.rest.0.0.0.0.0.0.1 c.before.match.rest.0.0.0.0.0.1 c.before.match.rest.0.0.0.0.1 c.before.match.rest.0.0.0.1 c.before.match.rest.0.0.1 c.before.match.rest.0.1 c.before.match.rest.1) (other_value c.before.before.before.before.before.before.before.before.before.args.img.now c.before.before.before.before.before.before.before.before.before.args.scope.now c.before.before.before.before.before.before.before.before.before.args.rules c.before.before.before.before.before.before.before.before.before.args.st _ _ _ _ c.with2.ensures)

@@ -1,5 +1,5 @@
 -- The needs of `gen_field`.
-use Rattle.expr.proofs.Walk.{field-value}
+use Rattle.expr.proofs.Walk.{field_value}
 use Rattle.rules.specs.Bytes.{after}
 use mathlib.Core.Path.{◌∙◌, ap}
 use borrow.Author.Rules.{rules}
@@ -30,4 +30,4 @@ pub gen-field-same-length-2 : (t : ℕ) → gen-field-lts.Need-same-length-2 (ge
 gen-field-same-length-2 t c = search rules
 
 pub gen-field-returns : (t : ℕ) → gen-field-lts.Need-returns (gen-field-told t) (gen-field-at t) gen-field.Post
-gen-field-returns t c = field-value c.before.before.before.before.before.before.before.before.before.before.before.before.before.before.before.before.before.before.before.before.before.before.args.img.now c.before.before.before.before.before.before.before.before.before.before.before.before.before.before.before.before.before.before.before.before.before.before.args.scope.now c.before.before.before.before.before.before.before.before.before.before.before.before.before.before.before.before.before.before.before.before.before.before.args.rules c.before.before.before.before.before.before.before.before.before.before.before.before.before.before.before.before.before.before.before.before.before.before.args.st _ _ _ _ _ _ _ _ _ _ c.before.before.before.before.before.before.before.before.before.before.before.before.before.before.before.before.body.ensures.0 c.before.before.before.before.before.before.before.before.past.ensures.0 c.before.before.before.before.before.before.before.offset_at.ensures c.before.before.before.before.before.before.before.before.before.before.before.before.before.gen-expr.ensures c.before.before.before.before.emit-new.ensures
+gen-field-returns t c = field_value c.before.before.before.before.before.before.before.before.before.before.before.before.before.before.before.before.before.before.before.before.before.before.args.img.now c.before.before.before.before.before.before.before.before.before.before.before.before.before.before.before.before.before.before.before.before.before.before.args.scope.now c.before.before.before.before.before.before.before.before.before.before.before.before.before.before.before.before.before.before.before.before.before.before.args.rules c.before.before.before.before.before.before.before.before.before.before.before.before.before.before.before.before.before.before.before.before.before.before.args.st _ _ _ _ _ _ _ _ _ _ c.before.before.before.before.before.before.before.before.before.before.before.before.before.before.before.before.body.ensures.0 c.before.before.before.before.before.before.before.before.past.ensures.0 c.before.before.before.before.before.before.before.offset_at.ensures c.before.before.before.before.before.before.before.before.before.before.before.before.before.gen-expr.ensures c.before.before.before.before.emit-new.ensures

@@ -3,8 +3,8 @@ use Rattle.emit.specs.Sinks.{sinks}
 use mathlib.Core.Path.{ap}
 use borrow.Author.Tests.{ltb-true, ltb-false}
 use Rattle.expr.specs.declared.steps.Several.{Several}
-use Rattle.expr.proofs.Walk.{inits-full, inits-end}
-use Rattle.expr.proofs.Loops.{Gathering, gather-begin, inits-from, inits-go, gather-end}
+use Rattle.expr.proofs.Walk.{inits_full, inits_end}
+use Rattle.expr.proofs.Loops.{Gathering, gather_begin, inits_from_lem, inits-go, gather_end}
 use Prim.Native.Nat.{ℕ, ◌-◌}
 use native.Mathlib.Omega.{arith}
 use borrow.Author.Rules.{rules}
@@ -13,13 +13,13 @@ use Rattle.expr.proofs.+gen_args_gen_binary_gen_call_gen_expr_gen_field_gen_init
 use Rattle.expr.proofs.+gen_args_gen_binary_gen_call_gen_expr_gen_field_gen_inits_gen_list_gen_literal_gen_mapping_gen_merkle_gen_poseidon_gen_user.Proof.Common.{gen-inits-at, gen-inits-told}
 
 abbrev pub gen-inits-Inv-loop : gen-inits-lts.invariant-loop
-gen-inits-Inv-loop code₀ bytes₀ vals₀ img tables notes scope rules d first e p₀ v₀ code bytes vals p v = Gathering img (sinks code₀ bytes₀) v₀.st (inits-from img rules scope d e 0 first v₀.st.next) (sinks code bytes) vals v (inits-from img rules scope d e v.count p v.st.next)
+gen-inits-Inv-loop code₀ bytes₀ vals₀ img tables notes scope rules d first e p₀ v₀ code bytes vals p v = Gathering img (sinks code₀ bytes₀) v₀.st (inits_from_lem img rules scope d e 0 first v₀.st.next) (sinks code bytes) vals v (inits_from_lem img rules scope d e v.count p v.st.next)
 
 abbrev pub gen-inits-μ-loop : gen-inits-lts.decreases-loop
 gen-inits-μ-loop code₀ bytes₀ vals₀ img tables notes scope rules d first e p₀ v₀ code bytes vals p v = 64 - v.count
 
 pub gen-inits-loop-holds : (t : ℕ) → gen-inits-lts.Need-loop-init (gen-inits-told t) (gen-inits-at t) gen-inits.Post gen-inits-Inv-loop gen-inits-μ-loop
-gen-inits-loop-holds t c = gather-begin _ _ _ _ _ c.before.before.before.before.before.requires.1.1
+gen-inits-loop-holds t c = gather_begin _ _ _ _ _ c.before.before.before.before.before.requires.1.1
 
 pub gen-inits-body-requires : (t : ℕ) → gen-inits-lts.Need-body-requires (gen-inits-told t) (gen-inits-at t) gen-inits.Post gen-inits-Inv-loop gen-inits-μ-loop
 gen-inits-body-requires t c κs = search rules
@@ -49,7 +49,7 @@ pub gen-inits-same-length-2 : (t : ℕ) → gen-inits-lts.Need-same-length-2 (ge
 gen-inits-same-length-2 t c = c.before.before.before.loop.invariant.room.1
 
 pub gen-inits-returns : (t : ℕ) → gen-inits-lts.Need-returns (gen-inits-told t) (gen-inits-at t) gen-inits.Post gen-inits-Inv-loop gen-inits-μ-loop
-gen-inits-returns t c = gather-end _ _ _ _ c.before.before.before.loop.invariant (inits-end c.before.before.before.before.before.before.before.before.before.args.rules _ _ _ _ _ _ _ _ (ltb-false _ _ c.if2.false))
+gen-inits-returns t c = gather_end _ _ _ _ c.before.before.before.loop.invariant (inits_end c.before.before.before.before.before.before.before.before.before.args.rules _ _ _ _ _ _ _ _ (ltb-false _ _ c.if2.false))
 
 pub gen-inits-same-length-3 : (t : ℕ) → gen-inits-lts.Need-same-length-3 (gen-inits-told t) (gen-inits-at t) gen-inits.Post gen-inits-Inv-loop gen-inits-μ-loop
 gen-inits-same-length-3 t c = c.before.before.loop.invariant.room.0
@@ -58,4 +58,4 @@ pub gen-inits-same-length-4 : (t : ℕ) → gen-inits-lts.Need-same-length-4 (ge
 gen-inits-same-length-4 t c = c.before.before.loop.invariant.room.1
 
 pub gen-inits-returns-2 : (t : ℕ) → gen-inits-lts.Need-returns-2 (gen-inits-told t) (gen-inits-at t) gen-inits.Post gen-inits-Inv-loop gen-inits-μ-loop
-gen-inits-returns-2 t c = gather-end _ _ _ _ c.before.before.loop.invariant (inits-full c.before.before.before.before.before.before.before.before.args.rules _ _ _ _ _ _ _ _ c.if1.false)
+gen-inits-returns-2 t c = gather_end _ _ _ _ c.before.before.loop.invariant (inits_full c.before.before.before.before.before.before.before.before.args.rules _ _ _ _ _ _ _ _ c.if1.false)

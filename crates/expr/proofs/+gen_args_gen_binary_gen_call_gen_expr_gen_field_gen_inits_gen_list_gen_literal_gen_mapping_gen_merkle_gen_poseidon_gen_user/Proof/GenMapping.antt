@@ -1,5 +1,5 @@
 -- The needs of `gen_mapping`.
-use Rattle.expr.proofs.Walk.{mapping-value}
+use Rattle.expr.proofs.Walk.{mapping_value}
 use borrow.Author.Rules.{rules}
 use Prim.Native.Nat.{ℕ, ◌-◌}
 use Rattle.expr.proofs.gen_mapping.Reads as gen-mapping
@@ -28,4 +28,4 @@ pub gen-mapping-same-length-2 : (t : ℕ) → gen-mapping-lts.Need-same-length-2
 gen-mapping-same-length-2 t c = search rules
 
 pub gen-mapping-returns : (t : ℕ) → gen-mapping-lts.Need-returns (gen-mapping-told t) (gen-mapping-at t) gen-mapping.Post
-gen-mapping-returns t c = mapping-value c.before.before.before.before.before.before.before.before.before.before.before.before.before.before.before.before.before.before.before.before.before.before.args.img.now c.before.before.before.before.before.before.before.before.before.before.before.before.before.before.before.before.before.before.before.before.before.before.args.scope.now c.before.before.before.before.before.before.before.before.before.before.before.before.before.before.before.before.before.before.before.before.before.before.args.rules c.before.before.before.before.before.before.before.before.before.before.before.before.before.before.before.before.before.before.before.before.before.before.args.st _ _ _ _ _ _ _ _ _ _ c.before.before.before.before.before.before.before.before.before.before.before.before.before.before.before.before.body.ensures.0 c.before.before.before.before.before.before.before.before.before.before.before.before.past.ensures.0 c.before.before.before.before.before.before.before.before.before.before.before.before.before.before.before.storage-slot.ensures c.before.before.before.before.before.before.before.before.before.before.before.gen-expr.ensures c.before.before.before.before.read-mapping.ensures
+gen-mapping-returns t c = mapping_value c.before.before.before.before.before.before.before.before.before.before.before.before.before.before.before.before.before.before.before.before.before.before.args.img.now c.before.before.before.before.before.before.before.before.before.before.before.before.before.before.before.before.before.before.before.before.before.before.args.scope.now c.before.before.before.before.before.before.before.before.before.before.before.before.before.before.before.before.before.before.before.before.before.before.args.rules c.before.before.before.before.before.before.before.before.before.before.before.before.before.before.before.before.before.before.before.before.before.before.args.st _ _ _ _ _ _ _ _ _ _ c.before.before.before.before.before.before.before.before.before.before.before.before.before.before.before.before.body.ensures.0 c.before.before.before.before.before.before.before.before.before.before.before.before.past.ensures.0 c.before.before.before.before.before.before.before.before.before.before.before.before.before.before.before.storage-slot.ensures c.before.before.before.before.before.before.before.before.before.before.before.gen-expr.ensures c.before.before.before.before.read-mapping.ensures

@@ -1,5 +1,5 @@
 -- The needs of `gen_merkle`.
-use Rattle.expr.proofs.Walk.{merkle-value}
+use Rattle.expr.proofs.Walk.{merkle_value}
 use borrow.Author.Rules.{rules}
 use Prim.Native.Nat.{ℕ, ◌-◌}
 use Rattle.expr.proofs.gen_merkle.Reads as gen-merkle
@@ -28,4 +28,4 @@ pub gen-merkle-same-length-2 : (t : ℕ) → gen-merkle-lts.Need-same-length-2 (
 gen-merkle-same-length-2 t c = search rules
 
 pub gen-merkle-returns : (t : ℕ) → gen-merkle-lts.Need-returns (gen-merkle-told t) (gen-merkle-at t) gen-merkle.Post
-gen-merkle-returns t c = merkle-value c.before.before.before.before.before.before.before.before.before.before.before.before.before.before.before.before.before.before.before.before.before.before.before.before.before.before.args.img.now c.before.before.before.before.before.before.before.before.before.before.before.before.before.before.before.before.before.before.before.before.before.before.before.before.before.before.args.scope.now c.before.before.before.before.before.before.before.before.before.before.before.before.before.before.before.before.before.before.before.before.before.before.before.before.before.before.args.rules c.before.before.before.before.before.before.before.before.before.before.before.before.before.before.before.before.before.before.before.before.before.before.before.before.before.before.args.st _ _ _ _ _ _ _ _ c.before.before.before.before.before.before.before.before.before.before.before.Reg-at.result c.before.before.before.before.before.before.before.before.before.reg-at2.result c.before.before.before.before.before.before.before.reg-at3.result c.before.before.before.before.before.before.before.before.before.before.before.before.before.before.before.before.before.gen-list.ensures c.before.before.before.before.before.before.before.before.before.before.before.Reg-at.ensures c.before.before.before.before.before.before.before.before.before.reg-at2.ensures c.before.before.before.before.before.before.before.reg-at3.ensures c.before.before.before.before.emit-new.ensures
+gen-merkle-returns t c = merkle_value c.before.before.before.before.before.before.before.before.before.before.before.before.before.before.before.before.before.before.before.before.before.before.before.before.before.before.args.img.now c.before.before.before.before.before.before.before.before.before.before.before.before.before.before.before.before.before.before.before.before.before.before.before.before.before.before.args.scope.now c.before.before.before.before.before.before.before.before.before.before.before.before.before.before.before.before.before.before.before.before.before.before.before.before.before.before.args.rules c.before.before.before.before.before.before.before.before.before.before.before.before.before.before.before.before.before.before.before.before.before.before.before.before.before.before.args.st _ _ _ _ _ _ _ _ c.before.before.before.before.before.before.before.before.before.before.before.Reg-at.result c.before.before.before.before.before.before.before.before.before.reg-at2.result c.before.before.before.before.before.before.before.reg-at3.result c.before.before.before.before.before.before.before.before.before.before.before.before.before.before.before.before.before.gen-list.ensures c.before.before.before.before.before.before.before.before.before.before.before.Reg-at.ensures c.before.before.before.before.before.before.before.before.before.reg-at2.ensures c.before.before.before.before.before.before.before.reg-at3.ensures c.before.before.before.before.emit-new.ensures

@@ -1,5 +1,5 @@
 -- The needs of `gen_poseidon`.
-use Rattle.expr.proofs.Walk.{poseidon-value}
+use Rattle.expr.proofs.Walk.{poseidon_value}
 use borrow.Author.Rules.{rules}
 use Prim.Native.Nat.{ℕ, ◌-◌}
 use Rattle.expr.proofs.gen_poseidon.Reads as gen-poseidon
@@ -25,4 +25,4 @@ pub gen-poseidon-same-length-2 : (t : ℕ) → gen-poseidon-lts.Need-same-length
 gen-poseidon-same-length-2 t c = search rules
 
 pub gen-poseidon-returns : (t : ℕ) → gen-poseidon-lts.Need-returns (gen-poseidon-told t) (gen-poseidon-at t) gen-poseidon.Post
-gen-poseidon-returns t c = poseidon-value c.before.before.before.before.before.before.before.before.before.before.before.before.before.before.before.before.before.before.before.before.before.before.before.before.args.img.now c.before.before.before.before.before.before.before.before.before.before.before.before.before.before.before.before.before.before.before.before.before.before.before.before.args.scope.now c.before.before.before.before.before.before.before.before.before.before.before.before.before.before.before.before.before.before.before.before.before.before.before.before.args.rules c.before.before.before.before.before.before.before.before.before.before.before.before.before.before.before.before.before.before.before.before.before.before.before.before.args.st _ _ _ _ _ _ _ _ c.before.before.before.before.before.before.before.before.before.Reg-at.result c.before.before.before.before.before.before.before.reg-at2.result c.before.before.before.before.before.before.before.before.before.before.before.before.before.before.before.gen-list.ensures c.before.before.before.before.before.before.before.before.before.Reg-at.ensures c.before.before.before.before.before.before.before.reg-at2.ensures c.before.before.before.before.combine.ensures
+gen-poseidon-returns t c = poseidon_value c.before.before.before.before.before.before.before.before.before.before.before.before.before.before.before.before.before.before.before.before.before.before.before.before.args.img.now c.before.before.before.before.before.before.before.before.before.before.before.before.before.before.before.before.before.before.before.before.before.before.before.before.args.scope.now c.before.before.before.before.before.before.before.before.before.before.before.before.before.before.before.before.before.before.before.before.before.before.before.before.args.rules c.before.before.before.before.before.before.before.before.before.before.before.before.before.before.before.before.before.before.before.before.before.before.before.before.args.st _ _ _ _ _ _ _ _ c.before.before.before.before.before.before.before.before.before.Reg-at.result c.before.before.before.before.before.before.before.reg-at2.result c.before.before.before.before.before.before.before.before.before.before.before.before.before.before.before.gen-list.ensures c.before.before.before.before.before.before.before.before.before.Reg-at.ensures c.before.before.before.before.before.before.before.reg-at2.ensures c.before.before.before.before.combine.ensures

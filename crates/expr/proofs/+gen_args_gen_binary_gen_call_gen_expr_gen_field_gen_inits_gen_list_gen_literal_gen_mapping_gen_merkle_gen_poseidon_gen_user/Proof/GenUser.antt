@@ -1,5 +1,5 @@
 -- The needs of `gen_user`.
-use Rattle.expr.proofs.Walk.{user-value}
+use Rattle.expr.proofs.Walk.{user_value}
 use mathlib.Core.Path.{◌∙◌}
 use borrow.Author.Rules.{rules}
 use Prim.Native.Nat.{ℕ}
@@ -32,4 +32,4 @@ pub gen-user-same-length-2 : (t : ℕ) → gen-user-lts.Need-same-length-2 (gen-
 gen-user-same-length-2 t c = c.before.before.before.before.close-call.auto.1.0 ∙ c.before.before.before.before.before.before.before.before.before.before.before.before.before.before.gen-list.auto.1.0 ∙ c.before.before.before.before.before.before.before.before.before.before.before.before.before.before.before.before.before.before.before.before.before.before.push-up.auto.1.0
 
 pub gen-user-returns : (t : ℕ) → gen-user-lts.Need-returns (gen-user-told t) (gen-user-at t) gen-user.Post
-gen-user-returns t c = user-value c.before.before.before.before.before.before.before.before.before.before.before.before.before.before.before.before.before.before.before.before.before.before.before.before.before.before.before.before.before.before.before.args.img.now c.before.before.before.before.before.before.before.before.before.before.before.before.before.before.before.before.before.before.before.before.before.before.before.before.before.before.before.before.before.before.before.args.scope.now c.before.before.before.before.before.before.before.before.before.before.before.before.before.before.before.before.before.before.before.before.before.before.before.before.before.before.before.before.before.before.before.args.rules c.before.before.before.before.before.before.before.before.before.before.before.before.before.before.before.before.before.before.before.before.before.before.before.before.before.before.before.before.before.before.before.args.st _ _ _ _ _ _ _ _ _ _ _ _ _ c.before.before.before.before.before.before.before.before.before.before.before.before.before.before.before.before.before.before.before.before.before.before.before.less_one.ensures c.before.before.before.before.before.before.before.before.before.before.before.before.before.before.before.before.before.before.before.before.before.before.push-up.ensures c.before.before.before.before.before.before.before.before.before.before.before.before.before.before.gen-list.ensures c.before.before.before.before.before.before.before.before.before.body.ensures.0 c.before.before.before.before.before.before.before.before.function-index.ensures c.before.before.before.before.close-call.ensures
+gen-user-returns t c = user_value c.before.before.before.before.before.before.before.before.before.before.before.before.before.before.before.before.before.before.before.before.before.before.before.before.before.before.before.before.before.before.before.args.img.now c.before.before.before.before.before.before.before.before.before.before.before.before.before.before.before.before.before.before.before.before.before.before.before.before.before.before.before.before.before.before.before.args.scope.now c.before.before.before.before.before.before.before.before.before.before.before.before.before.before.before.before.before.before.before.before.before.before.before.before.before.before.before.before.before.before.before.args.rules c.before.before.before.before.before.before.before.before.before.before.before.before.before.before.before.before.before.before.before.before.before.before.before.before.before.before.before.before.before.before.before.args.st _ _ _ _ _ _ _ _ _ _ _ _ _ c.before.before.before.before.before.before.before.before.before.before.before.before.before.before.before.before.before.before.before.before.before.before.before.less_one.ensures c.before.before.before.before.before.before.before.before.before.before.before.before.before.before.before.before.before.before.before.before.before.before.push-up.ensures c.before.before.before.before.before.before.before.before.before.before.before.before.before.before.gen-list.ensures c.before.before.before.before.before.before.before.before.before.body.ensures.0 c.before.before.before.before.before.before.before.before.function-index.ensures c.before.before.before.before.close-call.ensures

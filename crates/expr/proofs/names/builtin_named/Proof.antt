@@ -1,5 +1,5 @@
 -- `builtin_named` meets its contract.
-use Rattle.expr.proofs.Asked.{is-poseidon, is-sender, is-nonce, is_number, is-merkle, is_none}
+use Rattle.expr.proofs.Asked.{is_poseidon, is_sender, is_nonce, is_number, is_merkle, is_none}
 use Rattle.expr.specs.Names.{builtin_of}
 use mathlib.Core.Path.{sym, ◌∙◌}
 use borrow.Author.Tests.{not-true}
@@ -28,7 +28,7 @@ is-name-requires c κs = search rules
 -- src/names.rt:81:9
 returns-2 : tie.Need-returns-2
 unfolding builtin_of
-returns-2 c = is-poseidon _ (sym c.before.is_name.ensures ∙ c.if2.true)
+returns-2 c = is_poseidon _ (sym c.before.is_name.ensures ∙ c.if2.true)
 
 -- src/names.rt:83:33
 slice-aggregate-is-name-2 : tie.Need-slice-aggregate-is-name-2
@@ -41,7 +41,7 @@ is-name-requires-2 c κs = search rules
 -- src/names.rt:84:9
 returns-3 : tie.Need-returns-3
 unfolding builtin_of
-returns-3 c = is-sender _ (sym c.before.before.before.before.is_name.ensures ∙ c.before.before.before.if2.false) (sym c.before.is-name2.ensures ∙ c.if3.true)
+returns-3 c = is_sender _ (sym c.before.before.before.before.is_name.ensures ∙ c.before.before.before.if2.false) (sym c.before.is-name2.ensures ∙ c.if3.true)
 
 -- src/names.rt:86:33
 slice-aggregate-is-name-3 : tie.Need-slice-aggregate-is-name-3
@@ -54,7 +54,7 @@ is-name-requires-3 c κs = search rules
 -- src/names.rt:87:9
 returns-4 : tie.Need-returns-4
 unfolding builtin_of
-returns-4 c = is-nonce _ (sym c.before.before.before.before.before.before.before.is_name.ensures ∙ c.before.before.before.before.before.before.if2.false) (sym c.before.before.before.before.is-name2.ensures ∙ c.before.before.before.if3.false) (sym c.before.is-name3.ensures ∙ c.if4.true)
+returns-4 c = is_nonce _ (sym c.before.before.before.before.before.before.before.is_name.ensures ∙ c.before.before.before.before.before.before.if2.false) (sym c.before.before.before.before.is-name2.ensures ∙ c.before.before.before.if3.false) (sym c.before.is-name3.ensures ∙ c.if4.true)
 
 -- src/names.rt:89:33
 slice-aggregate-is-name-4 : tie.Need-slice-aggregate-is-name-4
@@ -80,7 +80,7 @@ is-name-requires-5 c κs = search rules
 -- src/names.rt:93:9
 returns-6 : tie.Need-returns-6
 unfolding builtin_of
-returns-6 c = is-merkle _ (sym c.before.before.before.before.before.before.before.before.before.before.before.before.before.is_name.ensures ∙ c.before.before.before.before.before.before.before.before.before.before.before.before.if2.false) (sym c.before.before.before.before.before.before.before.before.before.before.is-name2.ensures ∙ c.before.before.before.before.before.before.before.before.before.if3.false) (sym c.before.before.before.before.before.before.before.is-name3.ensures ∙ c.before.before.before.before.before.before.if4.false) (sym c.before.before.before.before.is-name4.ensures ∙ c.before.before.before.if5.false) (sym c.before.is-name5.ensures ∙ c.if6.true)
+returns-6 c = is_merkle _ (sym c.before.before.before.before.before.before.before.before.before.before.before.before.before.is_name.ensures ∙ c.before.before.before.before.before.before.before.before.before.before.before.before.if2.false) (sym c.before.before.before.before.before.before.before.before.before.before.is-name2.ensures ∙ c.before.before.before.before.before.before.before.before.before.if3.false) (sym c.before.before.before.before.before.before.before.is-name3.ensures ∙ c.before.before.before.before.before.before.if4.false) (sym c.before.before.before.before.is-name4.ensures ∙ c.before.before.before.if5.false) (sym c.before.is-name5.ensures ∙ c.if6.true)
 
 -- src/names.rt:77:1
 returns-7 : tie.Need-returns-7

@@ -1,5 +1,5 @@
 -- `function_index` meets its contract.
-use Rattle.expr.proofs.Asked.{has-function, no-function}
+use Rattle.expr.proofs.Asked.{has_function, no-function}
 use borrow.Author.Rules.{rules}
 use Rattle.expr.proofs.names.function_index.Statement.{statement}
 use Rattle.expr.proofs.names.function_index.Tie as tie
@@ -18,7 +18,7 @@ enum_told c = search rules
 
 -- src/names.rt:76:1
 returns : tie.Need-returns
-returns c = has-function _ _ _ _ _ c.before.before.before.function-named.ensures c.before.i.given.1
+returns c = has_function _ _ _ _ _ c.before.before.before.function-named.ensures c.before.i.given.1
 
 -- src/names.rt:76:1
 returns-2 : tie.Need-returns-2

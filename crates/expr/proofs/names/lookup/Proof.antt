@@ -1,5 +1,5 @@
 -- `lookup` meets its contract.
-use Rattle.expr.proofs.Find.{find-hit, skip-name, skip-key, find_none}
+use Rattle.expr.proofs.Find.{find_hit, skip_name, skip_key, find_none}
 use Rattle.expr.specs.Names.{reg_of}
 use Rattle.expr.specs.Scope.{scope_of, scope_in}
 use Rattle.rules.specs.Emit.{find}
@@ -58,19 +58,19 @@ number-in-requires c κs = search rules
 
 returns : tie.Need-returns invariant-loop decreases-loop
 unfolding reg_of
-returns c = rw (c.number_in.ensures, c.before.before.before.before.cell2.ensures) (find-hit c.before.before.before.before.before.before.before.before.before.before.before.before.before.args.img.now c.before.before.before.before.before.before.before.before.before.before.before.before.before.args.scope.now _ c.before.before.before.before.before.before.before.before.loop.k c.before.before.before.before.before.before.before.loop-test.true (sym c.before.before.before.before.before.before.cell.ensures ∙ c.before.before.before.before.before.if1.true ∙ c.before.before.before.before.before.before.before.before.before.before.name-key.ensures) (rw (← c.before.before.before.before.cell2.ensures, ← c.before.before.before.IsPlace-in.ensures) (sym c.before.before.same_name.ensures ∙ c.before.if2.true)) ∙ c.before.before.before.before.before.before.before.before.loop.invariant.1)
+returns c = rw (c.number_in.ensures, c.before.before.before.before.cell2.ensures) (find_hit c.before.before.before.before.before.before.before.before.before.before.before.before.before.args.img.now c.before.before.before.before.before.before.before.before.before.before.before.before.before.args.scope.now _ c.before.before.before.before.before.before.before.before.loop.k c.before.before.before.before.before.before.before.loop-test.true (sym c.before.before.before.before.before.before.cell.ensures ∙ c.before.before.before.before.before.if1.true ∙ c.before.before.before.before.before.before.before.before.before.before.name-key.ensures) (rw (← c.before.before.before.before.cell2.ensures, ← c.before.before.before.IsPlace-in.ensures) (sym c.before.before.same_name.ensures ∙ c.before.if2.true)) ∙ c.before.before.before.before.before.before.before.before.loop.invariant.1)
 
 loop-less : tie.Need-loop-smaller invariant-loop decreases-loop
 loop-less c = search rules
 
 loop-again : tie.Need-loop-preserved invariant-loop decreases-loop
-loop-again c = (omega arith, sym (skip-name c.before.before.before.before.before.before.before.before.before.before.before.before.args.img.now c.before.before.before.before.before.before.before.before.before.before.before.before.args.scope.now _ c.before.before.before.before.before.before.before.loop.k c.before.before.before.before.before.before.loop-test.true (rw (← c.before.before.before.cell2.ensures, ← c.before.before.IsPlace-in.ensures) (sym c.before.same_name.ensures ∙ c.if2.false))) ∙ c.before.before.before.before.before.before.before.loop.invariant.1)
+loop-again c = (omega arith, sym (skip_name c.before.before.before.before.before.before.before.before.before.before.before.before.args.img.now c.before.before.before.before.before.before.before.before.before.before.before.before.args.scope.now _ c.before.before.before.before.before.before.before.loop.k c.before.before.before.before.before.before.loop-test.true (rw (← c.before.before.before.cell2.ensures, ← c.before.before.IsPlace-in.ensures) (sym c.before.same_name.ensures ∙ c.if2.false))) ∙ c.before.before.before.before.before.before.before.loop.invariant.1)
 
 loop-less-2 : tie.Need-loop-smaller-2 invariant-loop decreases-loop
 loop-less-2 c = search rules
 
 loop-again-2 : tie.Need-loop-preserved-2 invariant-loop decreases-loop
-loop-again-2 c = (omega arith, sym (skip-key c.before.before.before.before.before.before.before.before.args.img.now c.before.before.before.before.before.before.before.before.args.scope.now _ c.before.before.before.loop.k c.before.before.loop-test.true (λ e. c.if1.false (c.before.cell.ensures ∙ e ∙ sym c.before.before.before.before.before.name-key.ensures))) ∙ c.before.before.before.loop.invariant.1)
+loop-again-2 c = (omega arith, sym (skip_key c.before.before.before.before.before.before.before.before.args.img.now c.before.before.before.before.before.before.before.before.args.scope.now _ c.before.before.before.loop.k c.before.before.loop-test.true (λ e. c.if1.false (c.before.cell.ensures ∙ e ∙ sym c.before.before.before.before.before.name-key.ensures))) ∙ c.before.before.before.loop.invariant.1)
 
 returns-2 : tie.Need-returns-2 invariant-loop decreases-loop
 unfolding reg_of

@@ -1,5 +1,5 @@
 -- `keep` meets its contract.
-use Rattle.expr.proofs.Values.{more-first, more-second, more-later}
+use Rattle.expr.proofs.Values.{more_first, more_second, more_later}
 use mathlib.Core.Path.{refl}
 use borrow.Author.Rules.{rules}
 use Rattle.expr.proofs.steps.keep.Statement.{statement}
@@ -15,13 +15,13 @@ add-count : tie.Need-overflow-add-count
 add-count c = search rules
 
 returns : tie.Need-returns
-returns c = (more-first c.before.before.args.v c.before.before.args.st c.if1.true, refl)
+returns c = (more_first c.before.before.args.v c.before.before.args.st c.if1.true, refl)
 
 returns-2 : tie.Need-returns-2
-returns-2 c = (more-second c.before.before.before.args.v c.before.before.before.args.st c.if2.true, refl)
+returns-2 c = (more_second c.before.before.before.args.v c.before.before.before.args.st c.if2.true, refl)
 
 returns-3 : tie.Need-returns-3
-returns-3 c = (more-later c.before.before.before.args.v c.before.before.before.args.st c.before.if1.false c.if2.false, refl)
+returns-3 c = (more_later c.before.before.before.args.v c.before.before.before.args.st c.before.if1.false c.if2.false, refl)
 
 pub keep_spec : {M : Type 1} → statement M
 keep_spec =

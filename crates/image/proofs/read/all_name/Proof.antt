@@ -4,7 +4,7 @@ use mathlib.Core.Path.{sym}
 use Prim.Native.Nat.{◌-◌, ◌≤◌}
 use native.Mathlib.Omega.{arith}
 use Rattle.image.specs.Names.{Named}
-use Rattle.image.proofs.Names.{all_named, eight-more, last-eight}
+use Rattle.image.proofs.Names.{all_named, eight_more, last_eight}
 use borrow.Author.Rules.{rules}
 use Rattle.image.proofs.read.all_name.Statement.{statement}
 use Rattle.image.proofs.read.all_name.Tie as tie
@@ -49,7 +49,7 @@ loop-less : tie.Need-loop-smaller invariant-loop decreases-loop
 loop-less c = omega arith
 
 loop-again : tie.Need-loop-preserved invariant-loop decreases-loop
-loop-again c = (omega (arith, c.before.before.before.loop.invariant.0), omega arith, eight-more c.before.before.before.before.before.before.args.s.now c.before.before.before.before.before.before.args.from c.before.before.before.loop.p c.before.before.before.before.before.before.args.to c.before.before.before.loop.invariant.2 (c.before.fours-name.ensures c.if3.true))
+loop-again c = (omega (arith, c.before.before.before.loop.invariant.0), omega arith, eight_more c.before.before.before.before.before.before.args.s.now c.before.before.before.before.before.before.args.from c.before.before.before.loop.p c.before.before.before.before.before.before.args.to c.before.before.before.loop.invariant.2 (c.before.fours-name.ensures c.if3.true))
 
 each-name-requires-2 : tie.Need-each-name-requires-2 invariant-loop decreases-loop
 each-name-requires-2 c κs = search rules
@@ -70,7 +70,7 @@ fours-name-requires-2 : tie.Need-fours-name-requires-2 invariant-loop decreases-
 fours-name-requires-2 c κs = search rules
 
 returns-4 : tie.Need-returns-4 invariant-loop decreases-loop
-returns-4 c = sym (all_named c.before.before.before.before.before.before.before.args.s.now c.before.before.before.before.before.before.before.args.from c.before.before.before.before.before.before.before.args.to (omega arith) (last-eight c.before.before.before.before.before.before.before.args.s.now c.before.before.before.before.before.before.before.args.from c.before.before.before.before.loop.p c.before.before.before.before.before.before.before.args.to c.before.before.before.before.loop.invariant.2 c.before.before.least.result c.before.before.least.ensures (omega arith) (omega arith) (c.before.fours-name2.ensures c.if4.true)))
+returns-4 c = sym (all_named c.before.before.before.before.before.before.before.args.s.now c.before.before.before.before.before.before.before.args.from c.before.before.before.before.before.before.before.args.to (omega arith) (last_eight c.before.before.before.before.before.before.before.args.s.now c.before.before.before.before.before.before.before.args.from c.before.before.before.before.loop.p c.before.before.before.before.before.before.before.args.to c.before.before.before.before.loop.invariant.2 c.before.before.least.result c.before.before.least.ensures (omega arith) (omega arith) (c.before.fours-name2.ensures c.if4.true)))
 
 each-name-requires-3 : tie.Need-each-name-requires-3 invariant-loop decreases-loop
 each-name-requires-3 c κs = search rules

@@ -5,7 +5,7 @@ use native.Mathlib.Omega.{arith}
 use borrow.Author.Tests.{eqb-true}
 use lib.Dec.{T}
 use Rattle.rules.specs.Bytes.{name_byte_lem}
-use Rattle.image.proofs.Swar.{few-room, few}
+use Rattle.image.proofs.Swar.{few_room, few}
 use Rattle.image.proofs.Names.{few_named}
 use borrow.Author.Rules.{rules}
 use Rattle.image.proofs.read.few_name.Statement.{statement}
@@ -57,28 +57,28 @@ returns : tie.Need-returns
 returns c e = absurd (subst T (sym e) tt)
 
 add_a : tie.Need-overflow-add-a
-add_a c = let r = few-room c.before.before.before.before.before.wide.result c.before.before.before.wide2.result c.before.wide3.result (c.before.before.before.before.before.wide.ensures.1, c.before.before.before.wide2.ensures.1, c.before.wide3.ensures.1) c.if1.false in omega arith
+add_a c = let r = few_room c.before.before.before.before.before.wide.result c.before.before.before.wide2.result c.before.wide3.result (c.before.before.before.before.before.wide.ensures.1, c.before.before.before.wide2.ensures.1, c.before.wide3.ensures.1) c.if1.false in omega arith
 
 add-a-2 : tie.Need-overflow-add-a-2
-add-a-2 c = let r = few-room c.before.before.before.before.before.wide.result c.before.before.before.wide2.result c.before.wide3.result (c.before.before.before.before.before.wide.ensures.1, c.before.before.before.wide2.ensures.1, c.before.wide3.ensures.1) c.if1.false in omega arith
+add-a-2 c = let r = few_room c.before.before.before.before.before.wide.result c.before.before.before.wide2.result c.before.wide3.result (c.before.before.before.before.before.wide.ensures.1, c.before.before.before.wide2.ensures.1, c.before.wide3.ensures.1) c.if1.false in omega arith
 
 add-b : tie.Need-overflow-add-b
-add-b c = let r = few-room c.before.before.before.before.before.wide.result c.before.before.before.wide2.result c.before.wide3.result (c.before.before.before.before.before.wide.ensures.1, c.before.before.before.wide2.ensures.1, c.before.wide3.ensures.1) c.if1.false in omega arith
+add-b c = let r = few_room c.before.before.before.before.before.wide.result c.before.before.before.wide2.result c.before.wide3.result (c.before.before.before.before.before.wide.ensures.1, c.before.before.before.wide2.ensures.1, c.before.wide3.ensures.1) c.if1.false in omega arith
 
 add-b-2 : tie.Need-overflow-add-b-2
-add-b-2 c = let r = few-room c.before.before.before.before.before.wide.result c.before.before.before.wide2.result c.before.wide3.result (c.before.before.before.before.before.wide.ensures.1, c.before.before.before.wide2.ensures.1, c.before.wide3.ensures.1) c.if1.false in omega arith
+add-b-2 c = let r = few_room c.before.before.before.before.before.wide.result c.before.before.before.wide2.result c.before.wide3.result (c.before.before.before.before.before.wide.ensures.1, c.before.before.before.wide2.ensures.1, c.before.wide3.ensures.1) c.if1.false in omega arith
 
 add-c : tie.Need-overflow-add-c
-add-c c = let r = few-room c.before.before.before.before.before.wide.result c.before.before.before.wide2.result c.before.wide3.result (c.before.before.before.before.before.wide.ensures.1, c.before.before.before.wide2.ensures.1, c.before.wide3.ensures.1) c.if1.false in omega arith
+add-c c = let r = few_room c.before.before.before.before.before.wide.result c.before.before.before.wide2.result c.before.wide3.result (c.before.before.before.before.before.wide.ensures.1, c.before.before.before.wide2.ensures.1, c.before.wide3.ensures.1) c.if1.false in omega arith
 
 add-c-2 : tie.Need-overflow-add-c-2
-add-c-2 c = let r = few-room c.before.before.before.before.before.wide.result c.before.before.before.wide2.result c.before.wide3.result (c.before.before.before.before.before.wide.ensures.1, c.before.before.before.wide2.ensures.1, c.before.wide3.ensures.1) c.if1.false in omega arith
+add-c-2 c = let r = few_room c.before.before.before.before.before.wide.result c.before.before.before.wide2.result c.before.wide3.result (c.before.before.before.before.before.wide.ensures.1, c.before.before.before.wide2.ensures.1, c.before.wide3.ensures.1) c.if1.false in omega arith
 
 add-d : tie.Need-overflow-add-d
-add-d c = let r = few-room c.before.before.before.before.before.wide.result c.before.before.before.wide2.result c.before.wide3.result (c.before.before.before.before.before.wide.ensures.1, c.before.before.before.wide2.ensures.1, c.before.wide3.ensures.1) c.if1.false in omega arith
+add-d c = let r = few_room c.before.before.before.before.before.wide.result c.before.before.before.wide2.result c.before.wide3.result (c.before.before.before.before.before.wide.ensures.1, c.before.before.before.wide2.ensures.1, c.before.wide3.ensures.1) c.if1.false in omega arith
 
 add-d-2 : tie.Need-overflow-add-d-2
-add-d-2 c = let r = few-room c.before.before.before.before.before.wide.result c.before.before.before.wide2.result c.before.wide3.result (c.before.before.before.before.before.wide.ensures.1, c.before.before.before.wide2.ensures.1, c.before.wide3.ensures.1) c.if1.false in omega arith
+add-d-2 c = let r = few_room c.before.before.before.before.before.wide.result c.before.before.before.wide2.result c.before.wide3.result (c.before.before.before.before.before.wide.ensures.1, c.before.before.before.wide2.ensures.1, c.before.wide3.ensures.1) c.if1.false in omega arith
 
 returns-2 : tie.Need-returns-2
 returns-2 c e = let n = few c.before.before.before.before.before.wide.result c.before.before.before.wide2.result c.before.wide3.result (c.before.before.before.before.before.wide.ensures.1, c.before.before.before.wide2.ensures.1, c.before.wide3.ensures.1) c.if1.false (eqb-true _ _ e) in few_named c.before.before.before.before.before.before.before.before.args.s.now c.before.before.before.before.before.before.before.before.args.from c.before.before.before.before.before.before.before.before.args.to (omega arith) (omega arith) (ap name_byte_lem (sym c.before.before.before.before.before.wide.ensures.0) ∙ n.0, ap name_byte_lem (sym c.before.before.before.wide2.ensures.0) ∙ n.1, ap name_byte_lem (sym c.before.wide3.ensures.0) ∙ n.2)

@@ -3,7 +3,7 @@
 use mathlib.Core.Path.{◌∙◌, ap, sym}
 use native.Mathlib.Omega.{arith}
 use Rattle.lookup.specs.Answers.{checked_of}
-use Rattle.sema.proofs.Fronts.{passed-fine, passed-unfit}
+use Rattle.sema.proofs.Fronts.{passed_fine, passed_unfit}
 use Rattle.sema.proofs.Functions.{small}
 use borrow.Author.Rules.{rules}
 use Rattle.sema.proofs.front.behind_check.Statement.{statement}
@@ -23,11 +23,11 @@ enum-known-f c = search rules
 
 returns : tie.Need-returns
 unfolding checked_of
-returns c = passed-fine _ _ _ _ c.before.before.before.before.before.before.before.before.before.before.requires.0 c.before.before.before.before.before.before.before.before.before.before.requires.1 c.before.before.before.before.before.before.before.fill-tables.ensures (sym (ap (checked_of _) c.enum_told.given.1) ∙ c.before.before.analyse-checked.ensures.0) (c.before.before.analyse-checked.ensures.1.all _ (ap (checked_of _) c.enum_told.given.1))
+returns c = passed_fine _ _ _ _ c.before.before.before.before.before.before.before.before.before.before.requires.0 c.before.before.before.before.before.before.before.before.before.before.requires.1 c.before.before.before.before.before.before.before.fill-tables.ensures (sym (ap (checked_of _) c.enum_told.given.1) ∙ c.before.before.analyse-checked.ensures.0) (c.before.before.analyse-checked.ensures.1.all _ (ap (checked_of _) c.enum_told.given.1))
 
 returns-2 : tie.Need-returns-2
 unfolding checked_of
-returns-2 c = passed-unfit _ _ _ c.before.before.before.before.before.before.before.before.before.before.before.requires.0 _ (sym (ap (checked_of _) c.before.f.given.1) ∙ c.before.before.before.analyse-checked.ensures.0)
+returns-2 c = passed_unfit _ _ _ c.before.before.before.before.before.before.before.before.before.before.before.requires.0 _ (sym (ap (checked_of _) c.before.f.given.1) ∙ c.before.before.before.analyse-checked.ensures.0)
 
 pub behind-check-spec : {M : Type 1} → statement M
 behind-check-spec =

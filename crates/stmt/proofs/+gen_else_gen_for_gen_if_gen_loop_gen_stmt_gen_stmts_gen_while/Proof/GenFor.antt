@@ -10,7 +10,7 @@ use Rattle.emit.specs.Ran.{raw}
 use Rattle.emit.specs.Refines.{seq, still, renewed}
 use Rattle.expr.specs.Scope.{scope_in}
 use Rattle.stmt.specs.Runs.{here, for_loop, stepping}
-use Rattle.stmt.proofs.Names.{joined, put_back, back-frame, behind_one}
+use Rattle.stmt.proofs.Names.{joined, put_back, back_frame, behind_one}
 use lib.ListN.{length-set}
 use borrow.Author.Rules.{rules}
 use Rattle.stmt.proofs.gen_for.Reads as gen-for
@@ -73,5 +73,5 @@ gen-for-returns t c = record {
       (renewed (raw _) _ _ _ (c.before.before.before.before.before.before.before.before.before.before.before.before.before.before.before.before.before.before.before.emit-new.ensures.ran _)
       (seq (raw _) _ (rw (c.before.before.before.before.before.before.before.before.before.before.before.before.before.before.before.before.before.before.before.emit-new.ensures.next, c.before.before.before.before.before.before.before.before.before.before.before.before.before.bind.ensures.scope, c.before.before.before.before.before.before.before.before.before.before.before.before.before.before.before.before.before.before.before.before.before.before.before.before.before.before.before.before.before.before.before.before.before.before.before.before.before.before.before.past3.ensures.0, c.before.before.before.before.before.before.before.before.before.before.before.before.before.before.before.before.before.before.before.before.before.before.before.before.before.before.before.before.before.before.before.before.before.before.before.before.before.before.before.before.past2.ensures.0, c.before.before.before.before.before.before.before.before.before.before.before.before.before.before.before.before.before.before.before.before.before.before.before.before.before.before.before.before.before.before.before.before.before.before.before.before.before.before.before.before.before.past.ensures.0, c.before.before.before.before.before.before.before.before.before.before.before.before.before.before.before.before.before.before.before.before.before.before.before.before.before.before.before.before.before.before.before.before.before.before.before.before.before.before.before.before.before.before.body.ensures.0) at (c.before.before.before.before.before.before.before.gen-loop.ensures.ran (here (scope_in c.before.before.before.before.before.before.before.before.before.before.before.before.before.before.before.before.before.before.before.before.before.before.before.before.before.before.before.before.before.before.before.before.before.before.before.before.before.before.before.before.before.before.before.before.before.before.before.before.args.img.now c.before.before.before.before.before.before.before.before.before.before.before.before.before.before.before.before.before.before.before.before.before.before.before.before.before.before.before.before.before.before.before.before.before.before.before.before.before.before.before.before.before.before.before.before.before.before.before.before.args.scope.now) c.before.before.before.before.before.before.before.before.before.before.before.before.before.before.before.before.before.before.before.before.before.before.before.before.before.before.before.before.before.before.before.before.before.before.before.before.before.before.before.before.before.before.before.before.before.before.before.before.args.st.next)))
       (still (raw _) refl refl)))));
-  frame = back-frame c.before.before.before.before.before.before.before.before.before.before.before.before.before.before.before.before.before.before.before.before.before.before.before.before.before.before.before.before.before.before.before.before.before.before.before.before.before.before.before.before.before.before.before.before.before.before.before.before.args.img.now (joined c.before.before.before.before.before.before.before.before.before.before.before.before.before.bind.ensures.frame c.before.before.before.before.before.before.before.gen-loop.ensures.frame) (omega (arith, c.before.before.before.before.before.before.before.before.before.before.before.before.before.before.before.before.before.before.before.before.before.before.before.before.before.before.before.before.before.before.before.before.before.before.before.before.before.before.before.before.before.before.before.before.before.before.before.before.requires.1.size, c.before.before.before.before.before.before.before.gen-loop.auto.1.1.0, c.before.before.before.before.before.before.before.before.before.before.before.before.before.bind.auto.0)) _;
+  frame = back_frame c.before.before.before.before.before.before.before.before.before.before.before.before.before.before.before.before.before.before.before.before.before.before.before.before.before.before.before.before.before.before.before.before.before.before.before.before.before.before.before.before.before.before.before.before.before.before.before.before.args.img.now (joined c.before.before.before.before.before.before.before.before.before.before.before.before.before.bind.ensures.frame c.before.before.before.before.before.before.before.gen-loop.ensures.frame) (omega (arith, c.before.before.before.before.before.before.before.before.before.before.before.before.before.before.before.before.before.before.before.before.before.before.before.before.before.before.before.before.before.before.before.before.before.before.before.before.before.before.before.before.before.before.before.before.before.before.before.before.requires.1.size, c.before.before.before.before.before.before.before.gen-loop.auto.1.1.0, c.before.before.before.before.before.before.before.before.before.before.before.before.before.bind.auto.0)) _;
 }

@@ -4,7 +4,7 @@ use Rattle.emit.specs.Sinks.{sinks}
 use Prim.Native.Nat.{◌-◌, ℕ}
 use native.Mathlib.Omega.{arith}
 use Rattle.rules.specs.Read.{stmt_at_lem}
-use Rattle.stmt.proofs.Lists.{goes_on, Loop, begins, roomy, goes, ends-all}
+use Rattle.stmt.proofs.Lists.{goes_on, Loop, begins, roomy, goes, ends_all}
 use borrow.Author.Rules.{rules}
 use Rattle.stmt.proofs.gen_stmts.Reads as gen-stmts
 use Rattle.stmt.proofs.+gen_else_gen_for_gen_if_gen_loop_gen_stmt_gen_stmts_gen_while.Lts-gen_stmts as gen-stmts-lts
@@ -41,4 +41,4 @@ pub gen-stmts-same-length-3 : (t : ℕ) → gen-stmts-lts.Need-same-length-3 (ge
 gen-stmts-same-length-3 t c = c.before.loop.invariant.scope
 
 pub gen-stmts-returns : (t : ℕ) → gen-stmts-lts.Need-returns (gen-stmts-told t) (gen-stmts-at t) gen-stmts.Post gen-stmts-Inv-loop gen-stmts-μ-loop
-gen-stmts-returns t c = ends-all _ _ _ _ _ _ _ _ c.before.loop.invariant c.loop-test.false
+gen-stmts-returns t c = ends_all _ _ _ _ _ _ _ _ c.before.loop.invariant c.loop-test.false

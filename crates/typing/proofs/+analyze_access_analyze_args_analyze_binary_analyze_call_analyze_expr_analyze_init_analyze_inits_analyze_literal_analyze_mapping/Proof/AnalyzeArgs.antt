@@ -4,12 +4,12 @@ use Rattle.lookup.specs.Answers.{due_of, env_of, misfit_of, typed_of}
 use Rattle.rules.specs.Bytes.{after, inside}
 use Rattle.rules.specs.Read.{contract_at, expr_at, exprs_from}
 use Rattle.rules.specs.Refusal.{◌>>=◌}
-use Rattle.typing.proofs.Lists.{args-done, args-next, args-refused, args-start, drop_more, nth_drop}
-use Rattle.typing.proofs.Wrote.{args_all, args_first, args-written}
+use Rattle.typing.proofs.Lists.{args-done, args-next, args-refused, args_start, drop_more, nth_drop}
+use Rattle.typing.proofs.Wrote.{args_all, args_first, args_written}
 use Rattle.rules.specs.Meant.{ofExprs}
 use Rattle.notes.specs.Notes.{written}
 use Rattle.notes.specs.Wrote.{refused, was, wrote}
-use Rattle.typing.proofs.Trees.{exprs-end, exprs-zero}
+use Rattle.typing.proofs.Trees.{exprs_end, exprs_zero}
 use Rattle.typing.specs.Arguments.{args_of, behind, exprs_in, sum_args}
 use borrow.Author.Rules.{rules}
 use lib.ListN.{drop}
@@ -33,11 +33,11 @@ analyze-args-body-requires t c κs = search rules
 
 pub analyze-args-loop-holds : (t : ℕ) → analyze-args-lts.Need-loop-init (analyze-args-told t) (analyze-args-at t) analyze-args.Post analyze-args-Inv-loop analyze-args-μ-loop
 unfolding misfit_of
-analyze-args-loop-holds t c = (rw (c.body.ensures.0, c.before.past.ensures.0) (args_first (contract_at c.before.before.before.before.before.args.img.now) c.before.before.before.before.before.args.notes.now (env_of c.before.before.before.before.before.args.img.now c.before.before.before.before.before.args.env.now c.before.before.before.before.before.args.top) (expr_at c.before.before.before.before.before.args.d c.before.before.before.before.before.args.img.now) c.before.before.before.before.before.args.img.now c.before.before.before.before.before.args.left (inside c.before.before.before.before.before.args.img.now c.before.before.before.before.before.args.l) (after c.before.before.before.before.before.args.img.now c.before.before.before.before.before.args.l)), (omega arith, (refl, rw (c.body.ensures.0, c.before.past.ensures.0) (args-start (contract_at c.before.before.before.before.before.args.img.now) c.before.before.before.before.before.args.d c.before.before.before.before.before.args.img.now (env_of c.before.before.before.before.before.args.img.now c.before.before.before.before.before.args.env.now c.before.before.before.before.before.args.top) (due_of c.before.before.before.before.before.args.img.now c.before.before.before.before.before.args.params) c.before.before.before.before.before.args.left (inside c.before.before.before.before.before.args.img.now c.before.before.before.before.before.args.l) (after c.before.before.before.before.before.args.img.now c.before.before.before.before.before.args.l)))))
+analyze-args-loop-holds t c = (rw (c.body.ensures.0, c.before.past.ensures.0) (args_first (contract_at c.before.before.before.before.before.args.img.now) c.before.before.before.before.before.args.notes.now (env_of c.before.before.before.before.before.args.img.now c.before.before.before.before.before.args.env.now c.before.before.before.before.before.args.top) (expr_at c.before.before.before.before.before.args.d c.before.before.before.before.before.args.img.now) c.before.before.before.before.before.args.img.now c.before.before.before.before.before.args.left (inside c.before.before.before.before.before.args.img.now c.before.before.before.before.before.args.l) (after c.before.before.before.before.before.args.img.now c.before.before.before.before.before.args.l)), (omega arith, (refl, rw (c.body.ensures.0, c.before.past.ensures.0) (args_start (contract_at c.before.before.before.before.before.args.img.now) c.before.before.before.before.before.args.d c.before.before.before.before.before.args.img.now (env_of c.before.before.before.before.before.args.img.now c.before.before.before.before.before.args.env.now c.before.before.before.before.before.args.top) (due_of c.before.before.before.before.before.args.img.now c.before.before.before.before.before.args.params) c.before.before.before.before.before.args.left (inside c.before.before.before.before.before.args.img.now c.before.before.before.before.before.args.l) (after c.before.before.before.before.before.args.img.now c.before.before.before.before.before.args.l)))))
 
 pub analyze-args-returns : (t : ℕ) → analyze-args-lts.Need-returns (analyze-args-told t) (analyze-args-at t) analyze-args.Post analyze-args-Inv-loop analyze-args-μ-loop
 unfolding args_of
-analyze-args-returns t c = (args-done (contract_at c.before.before.before.before.before.before.before.before.args.img.now) c.before.before.before.before.before.before.before.before.args.d c.before.before.before.before.before.before.before.before.args.img.now (env_of c.before.before.before.before.before.before.before.before.args.img.now c.before.before.before.before.before.before.before.before.args.env.now c.before.before.before.before.before.before.before.before.args.top) (due_of c.before.before.before.before.before.before.before.before.args.img.now c.before.before.before.before.before.before.before.before.args.params) c.before.before.loop.i (misfit_of c.before.before.loop.m) _ (exprs-end (expr_at c.before.before.before.before.before.before.before.before.args.d c.before.before.before.before.before.before.before.before.args.img.now) c.before.before.before.before.before.before.before.before.args.img.now (c.before.before.before.before.before.before.before.before.args.left - c.before.before.loop.i) c.before.before.loop.p c.before.before.before.before.past.result c.if1.true) ∙ sym c.before.before.loop.invariant.1.1.1, wrote (contract_at c.before.before.before.before.before.before.before.before.args.img.now) _ (sym (c.before.before.loop.invariant.0 ∙ args_all (contract_at c.before.before.before.before.before.before.before.before.args.img.now) _ (env_of c.before.before.before.before.before.before.before.before.args.img.now c.before.before.before.before.before.before.before.before.args.env.now c.before.before.before.before.before.before.before.before.args.top) _ (exprs-end (expr_at c.before.before.before.before.before.before.before.before.args.d c.before.before.before.before.before.before.before.before.args.img.now) c.before.before.before.before.before.before.before.before.args.img.now (c.before.before.before.before.before.before.before.before.args.left - c.before.before.loop.i) c.before.before.loop.p c.before.before.before.before.past.result c.if1.true))))
+analyze-args-returns t c = (args-done (contract_at c.before.before.before.before.before.before.before.before.args.img.now) c.before.before.before.before.before.before.before.before.args.d c.before.before.before.before.before.before.before.before.args.img.now (env_of c.before.before.before.before.before.before.before.before.args.img.now c.before.before.before.before.before.before.before.before.args.env.now c.before.before.before.before.before.before.before.before.args.top) (due_of c.before.before.before.before.before.before.before.before.args.img.now c.before.before.before.before.before.before.before.before.args.params) c.before.before.loop.i (misfit_of c.before.before.loop.m) _ (exprs_end (expr_at c.before.before.before.before.before.before.before.before.args.d c.before.before.before.before.before.before.before.before.args.img.now) c.before.before.before.before.before.before.before.before.args.img.now (c.before.before.before.before.before.before.before.before.args.left - c.before.before.loop.i) c.before.before.loop.p c.before.before.before.before.past.result c.if1.true) ∙ sym c.before.before.loop.invariant.1.1.1, wrote (contract_at c.before.before.before.before.before.before.before.before.args.img.now) _ (sym (c.before.before.loop.invariant.0 ∙ args_all (contract_at c.before.before.before.before.before.before.before.before.args.img.now) _ (env_of c.before.before.before.before.before.before.before.before.args.img.now c.before.before.before.before.before.before.before.before.args.env.now c.before.before.before.before.before.before.before.before.args.top) _ (exprs_end (expr_at c.before.before.before.before.before.before.before.before.args.d c.before.before.before.before.before.before.before.before.args.img.now) c.before.before.before.before.before.before.before.before.args.img.now (c.before.before.before.before.before.before.before.before.args.left - c.before.before.loop.i) c.before.before.loop.p c.before.before.before.before.past.result c.if1.true))))
 
 pub analyze-args-analyze-expr-requires : (t : ℕ) → analyze-args-lts.Need-analyze-expr-requires (analyze-args-told t) (analyze-args-at t) analyze-args.Post analyze-args-Inv-loop analyze-args-μ-loop
 analyze-args-analyze-expr-requires t c κs = (omega arith, c.before.before.before.before.before.before.before.before.before.requires.1)
@@ -62,7 +62,7 @@ analyze-args-loop-less t c = omega arith
 
 pub analyze-args-loop-again : (t : ℕ) → analyze-args-lts.Need-loop-preserved (analyze-args-told t) (analyze-args-at t) analyze-args.Post analyze-args-Inv-loop analyze-args-μ-loop
 unfolding typed_of
-analyze-args-loop-again t c = (c.before.before.before.before.before.before.before.before.before.before.loop.invariant.0 ∙ rw c.past2.ensures.0 (args-written (contract_at c.before.before.before.before.before.before.before.before.before.before.before.before.before.before.before.before.args.img.now) c.before.before.before.before.before.before.before.before.before.before.before.before.before.before.before.before.args.d c.before.before.before.before.before.before.before.before.before.before.before.before.before.before.before.before.args.img.now (env_of c.before.before.before.before.before.before.before.before.before.before.before.before.before.before.before.before.args.img.now c.before.before.before.before.before.before.before.before.before.before.before.before.before.before.before.before.args.env.now c.before.before.before.before.before.before.before.before.before.before.before.before.before.before.before.before.args.top) _ c.before.before.before.before.before.before.before.before.before.before.before.before.before.before.before.before.args.left c.before.before.before.before.before.before.before.before.before.before.loop.i c.before.before.before.before.before.before.before.before.before.before.loop.p c.before.before.before.before.before.before.before.before.before.before.before.before.past.result c.before.before.before.before.before.before.before.before.before.loop-test.true c.before.before.before.before.before.before.before.before.if1.false (was (contract_at c.before.before.before.before.before.before.before.before.before.before.before.before.before.before.before.before.args.img.now) _ c.before.before.before.before.before.before.analyze-expr.ensures.1 (ap (typed_of c.before.before.before.before.before.before.before.before.before.before.before.before.before.before.before.before.args.img.now) c.before.before.before.before.t.given.1))), (omega arith, (c.before.next-due.ensures ∙ ap (drop 1) c.before.before.before.before.before.before.before.before.before.before.loop.invariant.1.1.0 ∙ drop_more c.before.before.before.before.before.before.before.before.before.before.loop.i (due_of c.before.before.before.before.before.before.before.before.before.before.before.before.before.before.before.before.args.img.now c.before.before.before.before.before.before.before.before.before.before.before.before.before.before.before.before.args.params), c.before.before.before.before.before.before.before.before.before.before.loop.invariant.1.1.1 ∙ rw c.past2.ensures.0 (args-next (contract_at c.before.before.before.before.before.before.before.before.before.before.before.before.before.before.before.before.args.img.now) c.before.before.before.before.before.before.before.before.before.before.before.before.before.before.before.before.args.d c.before.before.before.before.before.before.before.before.before.before.before.before.before.before.before.before.args.img.now (env_of c.before.before.before.before.before.before.before.before.before.before.before.before.before.before.before.before.args.img.now c.before.before.before.before.before.before.before.before.before.before.before.before.before.before.before.before.args.env.now c.before.before.before.before.before.before.before.before.before.before.before.before.before.before.before.before.args.top) (due_of c.before.before.before.before.before.before.before.before.before.before.before.before.before.before.before.before.args.img.now c.before.before.before.before.before.before.before.before.before.before.before.before.before.before.before.before.args.params) c.before.before.before.before.before.before.before.before.before.before.loop.i (misfit_of c.before.before.before.before.before.before.before.before.before.before.loop.m) c.before.before.before.before.before.before.before.before.before.before.before.before.before.before.before.before.args.left c.before.before.before.before.before.before.before.before.before.before.loop.p c.before.before.before.before.before.before.before.before.before.before.before.before.past.result _ c.before.before.before.before.before.before.before.before.before.loop-test.true c.before.before.before.before.before.before.before.before.if1.false (sym (ap (typed_of c.before.before.before.before.before.before.before.before.before.before.before.before.before.before.before.before.args.img.now) c.before.before.before.before.t.given.1) ∙ c.before.before.before.before.before.before.analyze-expr.ensures.0) (rw (c.before.before.before.before.before.before.before.before.before.before.loop.invariant.1.1.0, nth_drop c.before.before.before.before.before.before.before.before.before.before.loop.i (due_of c.before.before.before.before.before.before.before.before.before.before.before.before.before.before.before.before.args.img.now c.before.before.before.before.before.before.before.before.before.before.before.before.before.before.before.before.args.params)) at c.before.before.note.ensures)))))
+analyze-args-loop-again t c = (c.before.before.before.before.before.before.before.before.before.before.loop.invariant.0 ∙ rw c.past2.ensures.0 (args_written (contract_at c.before.before.before.before.before.before.before.before.before.before.before.before.before.before.before.before.args.img.now) c.before.before.before.before.before.before.before.before.before.before.before.before.before.before.before.before.args.d c.before.before.before.before.before.before.before.before.before.before.before.before.before.before.before.before.args.img.now (env_of c.before.before.before.before.before.before.before.before.before.before.before.before.before.before.before.before.args.img.now c.before.before.before.before.before.before.before.before.before.before.before.before.before.before.before.before.args.env.now c.before.before.before.before.before.before.before.before.before.before.before.before.before.before.before.before.args.top) _ c.before.before.before.before.before.before.before.before.before.before.before.before.before.before.before.before.args.left c.before.before.before.before.before.before.before.before.before.before.loop.i c.before.before.before.before.before.before.before.before.before.before.loop.p c.before.before.before.before.before.before.before.before.before.before.before.before.past.result c.before.before.before.before.before.before.before.before.before.loop-test.true c.before.before.before.before.before.before.before.before.if1.false (was (contract_at c.before.before.before.before.before.before.before.before.before.before.before.before.before.before.before.before.args.img.now) _ c.before.before.before.before.before.before.analyze-expr.ensures.1 (ap (typed_of c.before.before.before.before.before.before.before.before.before.before.before.before.before.before.before.before.args.img.now) c.before.before.before.before.t.given.1))), (omega arith, (c.before.next-due.ensures ∙ ap (drop 1) c.before.before.before.before.before.before.before.before.before.before.loop.invariant.1.1.0 ∙ drop_more c.before.before.before.before.before.before.before.before.before.before.loop.i (due_of c.before.before.before.before.before.before.before.before.before.before.before.before.before.before.before.before.args.img.now c.before.before.before.before.before.before.before.before.before.before.before.before.before.before.before.before.args.params), c.before.before.before.before.before.before.before.before.before.before.loop.invariant.1.1.1 ∙ rw c.past2.ensures.0 (args-next (contract_at c.before.before.before.before.before.before.before.before.before.before.before.before.before.before.before.before.args.img.now) c.before.before.before.before.before.before.before.before.before.before.before.before.before.before.before.before.args.d c.before.before.before.before.before.before.before.before.before.before.before.before.before.before.before.before.args.img.now (env_of c.before.before.before.before.before.before.before.before.before.before.before.before.before.before.before.before.args.img.now c.before.before.before.before.before.before.before.before.before.before.before.before.before.before.before.before.args.env.now c.before.before.before.before.before.before.before.before.before.before.before.before.before.before.before.before.args.top) (due_of c.before.before.before.before.before.before.before.before.before.before.before.before.before.before.before.before.args.img.now c.before.before.before.before.before.before.before.before.before.before.before.before.before.before.before.before.args.params) c.before.before.before.before.before.before.before.before.before.before.loop.i (misfit_of c.before.before.before.before.before.before.before.before.before.before.loop.m) c.before.before.before.before.before.before.before.before.before.before.before.before.before.before.before.before.args.left c.before.before.before.before.before.before.before.before.before.before.loop.p c.before.before.before.before.before.before.before.before.before.before.before.before.past.result _ c.before.before.before.before.before.before.before.before.before.loop-test.true c.before.before.before.before.before.before.before.before.if1.false (sym (ap (typed_of c.before.before.before.before.before.before.before.before.before.before.before.before.before.before.before.before.args.img.now) c.before.before.before.before.t.given.1) ∙ c.before.before.before.before.before.before.analyze-expr.ensures.0) (rw (c.before.before.before.before.before.before.before.before.before.before.loop.invariant.1.1.0, nth_drop c.before.before.before.before.before.before.before.before.before.before.loop.i (due_of c.before.before.before.before.before.before.before.before.before.before.before.before.before.before.before.before.args.img.now c.before.before.before.before.before.before.before.before.before.before.before.before.before.before.before.before.args.params)) at c.before.before.note.ensures)))))
 
 pub analyze-args-enum-known-t-2 : (t : ℕ) → analyze-args-lts.Need-enum-known-t-2 (analyze-args-told t) (analyze-args-at t) analyze-args.Post analyze-args-Inv-loop analyze-args-μ-loop
 analyze-args-enum-known-t-2 t c = search rules
@@ -73,4 +73,4 @@ analyze-args-returns-2 t c = (args-refused (contract_at c.before.before.before.b
 
 pub analyze-args-returns-3 : (t : ℕ) → analyze-args-lts.Need-returns-3 (analyze-args-told t) (analyze-args-at t) analyze-args.Post analyze-args-Inv-loop analyze-args-μ-loop
 unfolding args_of
-analyze-args-returns-3 t c = (args-done (contract_at c.before.before.before.before.before.before.before.args.img.now) c.before.before.before.before.before.before.before.args.d c.before.before.before.before.before.before.before.args.img.now (env_of c.before.before.before.before.before.before.before.args.img.now c.before.before.before.before.before.before.before.args.env.now c.before.before.before.before.before.before.before.args.top) (due_of c.before.before.before.before.before.before.before.args.img.now c.before.before.before.before.before.before.before.args.params) c.before.loop.i (misfit_of c.before.loop.m) _ (exprs-zero (expr_at c.before.before.before.before.before.before.before.args.d c.before.before.before.before.before.before.before.args.img.now) c.before.before.before.before.before.before.before.args.img.now (c.before.before.before.before.before.before.before.args.left - c.before.loop.i) c.before.loop.p c.before.before.before.past.result (omega (arith, c.loop-test.false))) ∙ sym c.before.loop.invariant.1.1.1, wrote (contract_at c.before.before.before.before.before.before.before.args.img.now) _ (sym (c.before.loop.invariant.0 ∙ args_all (contract_at c.before.before.before.before.before.before.before.args.img.now) _ (env_of c.before.before.before.before.before.before.before.args.img.now c.before.before.before.before.before.before.before.args.env.now c.before.before.before.before.before.before.before.args.top) _ (exprs-zero (expr_at c.before.before.before.before.before.before.before.args.d c.before.before.before.before.before.before.before.args.img.now) c.before.before.before.before.before.before.before.args.img.now (c.before.before.before.before.before.before.before.args.left - c.before.loop.i) c.before.loop.p c.before.before.before.past.result (omega (arith, c.loop-test.false))))))
+analyze-args-returns-3 t c = (args-done (contract_at c.before.before.before.before.before.before.before.args.img.now) c.before.before.before.before.before.before.before.args.d c.before.before.before.before.before.before.before.args.img.now (env_of c.before.before.before.before.before.before.before.args.img.now c.before.before.before.before.before.before.before.args.env.now c.before.before.before.before.before.before.before.args.top) (due_of c.before.before.before.before.before.before.before.args.img.now c.before.before.before.before.before.before.before.args.params) c.before.loop.i (misfit_of c.before.loop.m) _ (exprs_zero (expr_at c.before.before.before.before.before.before.before.args.d c.before.before.before.before.before.before.before.args.img.now) c.before.before.before.before.before.before.before.args.img.now (c.before.before.before.before.before.before.before.args.left - c.before.loop.i) c.before.loop.p c.before.before.before.past.result (omega (arith, c.loop-test.false))) ∙ sym c.before.loop.invariant.1.1.1, wrote (contract_at c.before.before.before.before.before.before.before.args.img.now) _ (sym (c.before.loop.invariant.0 ∙ args_all (contract_at c.before.before.before.before.before.before.before.args.img.now) _ (env_of c.before.before.before.before.before.before.before.args.img.now c.before.before.before.before.before.before.before.args.env.now c.before.before.before.before.before.before.before.args.top) _ (exprs_zero (expr_at c.before.before.before.before.before.before.before.args.d c.before.before.before.before.before.before.before.args.img.now) c.before.before.before.before.before.before.before.args.img.now (c.before.before.before.before.before.before.before.args.left - c.before.loop.i) c.before.loop.p c.before.before.before.past.result (omega (arith, c.loop-test.false))))))

@@ -1,7 +1,7 @@
 -- The needs of `analyze_literal`.
 use Rattle.lookup.specs.Answers.{checked_of, fault_of, ty_of, typed_of}
 use Rattle.lookup.specs.Results.{known_none, known_some, then_bad, then_ok}
-use Rattle.rules.specs.Analyse.{expr, structNamed}
+use Rattle.rules.specs.Analyse.{expr, struct_named}
 use Rattle.rules.specs.Bytes.{name_at}
 use Rattle.rules.specs.Read.{contract_at, expr_as, struct_at}
 use Rattle.rules.specs.Refusal.{ok}
@@ -45,13 +45,13 @@ pub analyze-literal-enum-told-2 : (t : ℕ) → analyze-literal-lts.Need-enum-to
 analyze-literal-enum-told-2 t c = search rules
 
 pub analyze-literal-returns : (t : ℕ) → analyze-literal-lts.Need-returns (analyze-literal-told t) (analyze-literal-at t) analyze-literal.Post
-unfolding typed_of ty_of expr expr_as place_of mapped structNamed checked_of ofExpr
+unfolding typed_of ty_of expr expr_as place_of mapped struct_named checked_of ofExpr
 analyze-literal-returns t c = (then_ok _ (known_some _ (sym (ap (λ (o : Found). mapped (struct_at c.before.before.before.before.before.before.before.before.before.before.before.before.before.args.img.now) (place_of o)) c.before.before.before.before.before.s.given.1) ∙ rw c.before.before.before.before.before.before.before.before.before.body.ensures.0 at (struct_is c.before.before.before.before.before.before.before.before.before.before.before.before.before.args.img.now c.before.before.before.before.before.before.before.before.before.body.result _ c.before.before.before.before.before.before.before.struct-named.ensures))) (then_ok _ (sym (ap (checked_of c.before.before.before.before.before.before.before.before.before.before.before.before.before.args.img.now) c.enum_told.given.1) ∙ rw (c.before.before.before.before.before.before.before.before.past.ensures.0, c.before.before.before.before.before.before.before.before.before.body.ensures.0) at c.before.before.analyze-inits.ensures.0) (ap (λ (n : ℕ). ok (Typ.struct (name_at c.before.before.before.before.before.before.before.before.before.before.before.before.before.args.img.now n))) c.before.before.before.before.before.before.before.before.before.body.ensures.0)), wrote (contract_at c.before.before.before.before.before.before.before.before.before.before.before.before.before.args.img.now) _ (rw (c.before.before.before.before.before.before.before.before.past.ensures.0, c.before.before.before.before.before.before.before.before.before.body.ensures.0) at (was (contract_at c.before.before.before.before.before.before.before.before.before.before.before.before.before.args.img.now) _ c.before.before.analyze-inits.ensures.1 (ap (checked_of c.before.before.before.before.before.before.before.before.before.before.before.before.before.args.img.now) c.enum_told.given.1))))
 
 pub analyze-literal-returns-2 : (t : ℕ) → analyze-literal-lts.Need-returns-2 (analyze-literal-told t) (analyze-literal-at t) analyze-literal.Post
-unfolding typed_of expr expr_as place_of mapped structNamed checked_of
+unfolding typed_of expr expr_as place_of mapped struct_named checked_of
 analyze-literal-returns-2 t c = (then_ok _ (known_some _ (sym (ap (λ (o : Found). mapped (struct_at c.before.before.before.before.before.before.before.before.before.before.before.before.before.before.args.img.now) (place_of o)) c.before.before.before.before.before.before.s.given.1) ∙ rw c.before.before.before.before.before.before.before.before.before.before.body.ensures.0 at (struct_is c.before.before.before.before.before.before.before.before.before.before.before.before.before.before.args.img.now c.before.before.before.before.before.before.before.before.before.before.body.result _ c.before.before.before.before.before.before.before.before.struct-named.ensures))) (then_bad _ (sym (ap (checked_of c.before.before.before.before.before.before.before.before.before.before.before.before.before.before.args.img.now) c.before.k.given.1) ∙ rw (c.before.before.before.before.before.before.before.before.before.past.ensures.0, c.before.before.before.before.before.before.before.before.before.before.body.ensures.0) at c.before.before.before.analyze-inits.ensures.0)), refused (contract_at c.before.before.before.before.before.before.before.before.before.before.before.before.before.before.args.img.now) _ _ refl)
 
 pub analyze-literal-returns-3 : (t : ℕ) → analyze-literal-lts.Need-returns-3 (analyze-literal-told t) (analyze-literal-at t) analyze-literal.Post
-unfolding typed_of fault_of expr expr_as place_of mapped structNamed
+unfolding typed_of fault_of expr expr_as place_of mapped struct_named
 analyze-literal-returns-3 t c = (rw c.before.before.before.before.body.ensures.0 (then_bad _ (known_none _ (sym (ap (λ (o : Found). mapped (struct_at c.before.before.before.before.before.before.before.before.args.img.now) (place_of o)) c.enum-told2.given.1) ∙ rw c.before.before.before.before.body.ensures.0 at (struct_is c.before.before.before.before.before.before.before.before.args.img.now c.before.before.before.before.body.result _ c.before.before.struct-named.ensures)))), refused (contract_at c.before.before.before.before.before.before.before.before.args.img.now) _ _ refl)
