@@ -1,0 +1,139 @@
+-- The cycle of in_body, in_for, in_if, in_stmt, in_while, then_body meets its contracts.
+use mathlib.Core.Path.{◌≡◌, refl, sym, ap, ◌∙◌}
+use Prim.Native.Nat.{◌+◌, ◌*◌}
+use borrow.Author.Tests.{ltb-true, ltb-false}
+use Rattle.rules.specs.Bytes.{pick, after}
+use Rattle.rules.specs.Read.{stmt_at_lem, stmt_as, stmts_from, stmt_kind_of, sIf, sWhile, sFor, body_at, third, contract_at}
+use Rattle.rules.specs.Ambiguous.{inStmt, inStmts}
+use Rattle.ambiguous.specs.Spots.{spot_of}
+use Rattle.ambiguous.proofs.Trees.{stmt_zero, stmt_kind, else-there, else-not}
+use Rattle.ambiguous.proofs.Walk.{then_first, then_second, else_else, else_none, three, body-zero, body_end, body-here, body-next}
+use borrow.Author.Rules.{rules}
+use Prim.Native.Nat.{ℕ, ◌<◌}
+use borrow.Fn.Kinds.{In}
+use borrow.Fn.PlainCycle.{Measures, is, falls, and}
+use Rattle.ambiguous.proofs.in_body.Kinds as in-body-kinds
+use Rattle.ambiguous.proofs.in_for.Kinds as in-for-kinds
+use Rattle.ambiguous.proofs.in_if.Kinds as in-if-kinds
+use Rattle.ambiguous.proofs.in_stmt.Kinds as in-stmt-kinds
+use Rattle.ambiguous.proofs.in_while.Kinds as in-while-kinds
+use Rattle.ambiguous.proofs.then_body.Kinds as then-body-kinds
+use Rattle.ambiguous.proofs.+in_body_in_for_in_if_in_stmt_in_while_then_body.{statement}
+use Rattle.ambiguous.proofs.+in_body_in_for_in_if_in_stmt_in_while_then_body.Goals as goal
+
+abbrev μ-in-body : Measures 3 in-body-kinds.ps ℕ
+μ-in-body κs a = 4 * a.1.1.1.0 + 1
+
+abbrev μ-in-for : Measures 3 in-for-kinds.ps ℕ
+μ-in-for κs a = 4 * a.1.1.1.0 + 3
+
+abbrev μ-in-if : Measures 3 in-if-kinds.ps ℕ
+μ-in-if κs a = 4 * a.1.1.1.0 + 3
+
+abbrev μ-in-stmt : Measures 3 in-stmt-kinds.ps ℕ
+μ-in-stmt κs a = 4 * a.1.1.1.0
+
+abbrev μ-in-while : Measures 3 in-while-kinds.ps ℕ
+μ-in-while κs a = 4 * a.1.1.1.0 + 3
+
+abbrev μ-then-body : Measures 3 then-body-kinds.ps ℕ
+μ-then-body κs a = 4 * a.1.1.1.0 + 2
+
+abbrev in-body-at : ℕ → In 3 in-body-kinds.ps
+in-body-at t = and 3 in-body-kinds.ps (is 3 in-body-kinds.ps μ-in-body t) in_Body.Pre
+
+abbrev in-body-below : ℕ → In 3 in-body-kinds.ps
+in-body-below t = and 3 in-body-kinds.ps (falls 3 in-body-kinds.ps ◌<◌ μ-in-body t) in_Body.Pre
+
+abbrev in-for-at : ℕ → In 3 in-for-kinds.ps
+in-for-at t = and 3 in-for-kinds.ps (is 3 in-for-kinds.ps μ-in-for t) in-for.Pre
+
+abbrev in-for-below : ℕ → In 3 in-for-kinds.ps
+in-for-below t = and 3 in-for-kinds.ps (falls 3 in-for-kinds.ps ◌<◌ μ-in-for t) in-for.Pre
+
+abbrev in-if-at : ℕ → In 3 in-if-kinds.ps
+in-if-at t = and 3 in-if-kinds.ps (is 3 in-if-kinds.ps μ-in-if t) in-if.Pre
+
+abbrev in-if-below : ℕ → In 3 in-if-kinds.ps
+in-if-below t = and 3 in-if-kinds.ps (falls 3 in-if-kinds.ps ◌<◌ μ-in-if t) in-if.Pre
+
+abbrev in-stmt-at : ℕ → In 3 in-stmt-kinds.ps
+in-stmt-at t = and 3 in-stmt-kinds.ps (is 3 in-stmt-kinds.ps μ-in-stmt t) in-stmt.Pre
+
+abbrev in-stmt-below : ℕ → In 3 in-stmt-kinds.ps
+in-stmt-below t = and 3 in-stmt-kinds.ps (falls 3 in-stmt-kinds.ps ◌<◌ μ-in-stmt t) in-stmt.Pre
+
+abbrev in-while-at : ℕ → In 3 in-while-kinds.ps
+in-while-at t = and 3 in-while-kinds.ps (is 3 in-while-kinds.ps μ-in-while t) in-while.Pre
+
+abbrev in-while-below : ℕ → In 3 in-while-kinds.ps
+in-while-below t =
+    and 3 in-while-kinds.ps (falls 3 in-while-kinds.ps ◌<◌ μ-in-while t) in-while.Pre
+
+abbrev then-body-at : ℕ → In 3 then-body-kinds.ps
+then-body-at t = and 3 then-body-kinds.ps (is 3 then-body-kinds.ps μ-then-body t) then-body.Pre
+
+abbrev then-body-below : ℕ → In 3 then-body-kinds.ps
+then-body-below t =
+    and 3 then-body-kinds.ps (falls 3 then-body-kinds.ps ◌<◌ μ-then-body t) then-body.Pre
+
+pub in_body-loop-k-init : goal.in_body-loop-k-init
+in_body-loop-k-init t c = rw (c.body-p.ensures.0, c.past-end.ensures.0)
+
+pub in_body-returns-in-At : goal.in_body-returns-in-At
+in_body-returns-in-At t c = body-here (contract_at c.args.img.now) c.args.img.now (stmt_at_lem c.args.d c.args.img.now) c.loop-k.k c.loop-k.p c.past-end.result c.loop-k-test.true (ltb-true _ _ c.if-p-end.true) c.in-At.is c.in_stmt-a.ensures ∙ sym c.loop-k.invariant
+
+pub in_body-loop-k-preserved : goal.in_body-loop-k-preserved
+in_body-loop-k-preserved t c = c.loop-k.invariant ∙ rw c.past-p.ensures.0 (body-next (contract_at c.args.img.now) c.args.img.now (stmt_at_lem c.args.d c.args.img.now) c.loop-k.k c.loop-k.p c.past-end.result c.loop-k-test.true (ltb-true _ _ c.if-p-end.true) c.in-Nowhere.is c.in_stmt-a.ensures)
+
+pub in_body-returns-else-p-end : goal.in_body-returns-else-p-end
+unfolding spot_of
+in_body-returns-else-p-end t c = body_end (contract_at c.args.img.now) c.args.img.now (stmt_at_lem c.args.d c.args.img.now) c.loop-k.k c.loop-k.p c.past-end.result (ltb-false _ _ c.if-p-end.false) ∙ sym c.loop-k.invariant
+
+pub in_body-returns-after-loop-k : goal.in_body-returns-after-loop-k
+unfolding spot_of
+in_body-returns-after-loop-k t c = body-zero (contract_at c.args.img.now) c.args.img.now (stmt_at_lem c.args.d c.args.img.now) c.loop-k.k c.loop-k.p c.past-end.result c.loop-k-test.false ∙ sym c.loop-k.invariant
+
+pub in_for-returns : goal.in_for-returns
+unfolding inStmt stmt_as
+in_for-returns t c = (rw (c.in_two-t.ensures, c.past.ensures.0, c.past-to.ensures.0, c.second-from.ensures) at c.then_body.ensures) ∙ else_else _ _ _
+
+pub in_if-returns-then-other-past : goal.in_if-returns-then-other-past
+unfolding inStmt stmt_as
+in_if-returns-then-other-past t c = rw (else-there (stmt_at_lem c.args.d c.args.img.now) c.args.img.now (third c.args.img.now c.args.at) (after c.args.img.now c.args.at) (c.past-other.ensures.0 ∙ ap (after c.args.img.now) (c.past-then.ensures.0 ∙ ap (after c.args.img.now) c.body-test.ensures.0)) c.past.ensures.0 c.if-other-past.true) (three _ _ (rw c.body-test.ensures.0 at c.in_expr-t.ensures) (rw (c.past-then.ensures.0, c.body-test.ensures.0) at c.then_body-a.ensures) (rw (c.past-other.ensures.0, c.past-then.ensures.0, c.body-test.ensures.0) at c.then_body.ensures))
+
+pub in_if-returns-else-other-past : goal.in_if-returns-else-other-past
+unfolding inStmt inStmts stmt_as
+in_if-returns-else-other-past t c = rw (else-not (stmt_at_lem c.args.d c.args.img.now) c.args.img.now (third c.args.img.now c.args.at) (after c.args.img.now c.args.at) (c.past-other.ensures.0 ∙ ap (after c.args.img.now) (c.past-then.ensures.0 ∙ ap (after c.args.img.now) c.body-test.ensures.0)) c.past.ensures.0 c.if-other-past.false) (three _ _ (rw c.body-test.ensures.0 at c.in_expr-t.ensures) (rw (c.past-then.ensures.0, c.body-test.ensures.0) at c.then_body-a.ensures) (sym (else_none _)))
+
+pub in_stmt-returns-then-d-eq0 : goal.in_stmt-returns-then-d-eq0
+unfolding inStmt spot_of
+in_stmt-returns-then-d-eq0 t c = rw (stmt_zero c.args.d c.args.img.now c.args.at c.if-d-eq0.true)
+
+pub in_stmt-in_simple-requires : goal.in_stmt-in_simple-requires
+in_stmt-in_simple-requires t c = (c.requires.1, (c.in_default.in_default-own.rest.0.0.1, (c.in_default.in_default-own.rest.0.1, c.in_default.in_default-own.rest.1)))
+
+pub in_stmt-returns-in-37 : goal.in_stmt-returns-in-37
+unfolding stmt_kind_of pick
+in_stmt-returns-in-37 t c = rw (stmt_kind c.args.d c.args.img.now c.args.at c.kind-k.result sIf c.if-d-eq0.false c.kind-k.ensures.0 (ap stmt_kind_of c.in-37.is)) c.in_if.ensures
+
+pub in_stmt-returns-in-38 : goal.in_stmt-returns-in-38
+unfolding stmt_kind_of pick
+in_stmt-returns-in-38 t c = rw (stmt_kind c.args.d c.args.img.now c.args.at c.kind-k.result sWhile c.if-d-eq0.false c.kind-k.ensures.0 (ap stmt_kind_of c.in-38.is)) c.in_while.ensures
+
+pub in_stmt-returns-in-39 : goal.in_stmt-returns-in-39
+unfolding stmt_kind_of pick
+in_stmt-returns-in-39 t c = rw (stmt_kind c.args.d c.args.img.now c.args.at c.kind-k.result sFor c.if-d-eq0.false c.kind-k.ensures.0 (ap stmt_kind_of c.in-39.is)) c.in_for.ensures
+
+pub in_stmt-returns-in_default : goal.in_stmt-returns-in_default
+in_stmt-returns-in_default t c = rw (stmt_kind c.args.d c.args.img.now c.args.at c.kind-k.result (stmt_kind_of c.kind-k.result) c.if-d-eq0.false c.kind-k.ensures.0 refl) c.in_simple.ensures
+
+pub in_while-returns : goal.in_while-returns
+unfolding inStmt stmt_as
+in_while-returns t c = rw (c.in_expr-t.ensures, c.past.ensures.0, c.body-test.ensures.0) at c.then_body.ensures
+
+pub then_body-returns-in-At : goal.then_body-returns-in-At
+then_body-returns-in-At t c = then_first _ c.in-At.is refl
+
+pub then_body-returns-in-Nowhere : goal.then_body-returns-in-Nowhere
+then_body-returns-in-Nowhere t c = then_second _ c.in-Nowhere.is refl c.in_body.ensures

@@ -1,0 +1,17 @@
+-- note_fields meets its contract.
+use Prim.Native.Nat.{◌-◌, ◌≤◌}
+use Rattle.ambiguous.proofs.Agreed.{ext_refl, ext_trans, Told, begin_fields, end-fields, end-count, one_field}
+use Rattle.ambiguous.specs.Slots.{Extends}
+use Rattle.records.specs.Names.{never}
+use borrow.Author.Tests.{ltb-true, ltb-false}
+use lib.ListN.{length}
+use mathlib.Core.Path.{◌≡◌, refl, ◌∙◌}
+use native.Mathlib.Omega.{arith}
+use borrow.Author.Rules.{rules}
+use Rattle.ambiguous.proofs.agree.note_fields.Given as goal
+
+abbrev pub invariant-loop-n : goal.invariant-loop-n
+invariant-loop-n l = (length l.seen ≡ length l.initial.seen) × ((l.n ≤ 64) × (Extends l.initial.seen l.seen × Told l.img l.l l.seen l.n l.p l.end))
+
+abbrev pub decreases-loop-n : goal.decreases-loop-n
+decreases-loop-n l = 64 - l.n

@@ -1,0 +1,30 @@
+-- is_ambiguous meets its contract.
+use Prim.Native.Nat.{◌-◌, ◌≤◌}
+use Rattle.ambiguous.proofs.Clashes.{remains, begins, hits, passes, ends}
+use Rattle.fields.specs.Spots.{spot_of, positions_from}
+use Rattle.fields.specs.Steps.{past_all}
+use Rattle.ambiguous.specs.Spots.{unsure}
+use Rattle.rules.specs.Read.{contract_at}
+use mathlib.Core.Path.{◌≡◌, sym, ap, ◌∙◌}
+use native.Mathlib.Omega.{arith}
+use borrow.Author.Rules.{rules}
+use Rattle.ambiguous.proofs.apart.is_ambiguous.Goals as goal
+
+pub loop-i-init : goal.loop-i-init
+unfolding spot_of
+loop-i-init c = (omega arith, begins c.args.img.now _)
+
+pub position_at-here-requires : goal.position_at-here-requires
+position_at-here-requires c = (c.requires, rw (c.struct_count-n.ensures c.args.img.now c.requires) at c.loop-i-test.true)
+
+pub returns-then-differ : goal.returns-then-differ
+returns-then-differ c = sym (c.loop-i.invariant.1 ∙ ap (remains (spot_of c.loop-i.first)) c.position_at-here.ensures.is ∙ hits (spot_of c.loop-i.first) (spot_of c.position_at-here.result) _ (sym c.differ.ensures ∙ c.if-differ.true)) ∙ ap (unsure (contract_at c.args.img.now)) c.name-name.ensures
+
+pub loop-i-smaller : goal.loop-i-smaller
+loop-i-smaller c = omega (arith, c.loop-i-test.true)
+
+pub loop-i-preserved : goal.loop-i-preserved
+loop-i-preserved c = (omega arith, rw c.or_else-first.ensures (c.loop-i.invariant.1 ∙ ap (remains (spot_of c.loop-i.first)) c.position_at-here.ensures.is ∙ passes (spot_of c.loop-i.first) (spot_of c.position_at-here.result) _ (sym c.differ.ensures ∙ c.if-differ.false)))
+
+pub returns : goal.returns
+returns c = sym (c.loop-i.invariant.1 ∙ ends (spot_of c.loop-i.first) _ (past_all c.args.img.now _ c.loop-i.i (rw (c.struct_count-n.ensures c.args.img.now c.requires) at c.loop-i-test.false))) ∙ ap (unsure (contract_at c.args.img.now)) c.name-name.ensures

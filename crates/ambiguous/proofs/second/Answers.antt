@@ -1,0 +1,6 @@
+-- second meets its contract.
+use borrow.Author.Rules.{rules}
+use Rattle.ambiguous.proofs.second.Goals as goal
+
+pub returns : goal.returns
+returns c = rw c.body.ensures.0 at c.past.ensures.0

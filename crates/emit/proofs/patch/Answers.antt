@@ -1,0 +1,8 @@
+-- `patch` meets its contract.
+use mathlib.Core.Path.{◌∙◌}
+use Rattle.emit.specs.Sinks.{sinks, laid_one}
+use borrow.Author.Rules.{rules}
+use Rattle.emit.proofs.patch.Goals as goal
+
+pub returns : goal.returns
+returns c = (λ j. sinks (c.lay_number.ensures j) (c.lay_word.ensures j)) ∙ laid_one _ _ _

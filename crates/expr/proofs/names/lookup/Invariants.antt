@@ -1,0 +1,17 @@
+-- `lookup` meets its contract.
+use Rattle.expr.proofs.Find.{find_hit, skip_name, skip_key, find_none}
+use Rattle.expr.specs.Names.{reg_of}
+use Rattle.expr.specs.Scope.{scope_of, scope_in}
+use Rattle.rules.specs.Emit.{find}
+use Rattle.rules.specs.Bytes.{name_at}
+use Prim.Native.Nat.{◌≤◌}
+use native.Mathlib.Omega.{arith}
+use mathlib.Core.Path.{◌≡◌, refl, sym, ◌∙◌}
+use borrow.Author.Rules.{rules}
+use Rattle.expr.proofs.names.lookup.Given as goal
+
+abbrev pub invariant-loop-k : goal.invariant-loop-k
+invariant-loop-k l = (l.k ≤ 512) × (find (name_at l.img l.x) (scope_of l.img l.scope l.k) ≡ find (name_at l.img l.x) (scope_in l.img l.scope))
+
+abbrev pub decreases-loop-k : goal.decreases-loop-k
+decreases-loop-k l = l.k

@@ -1,0 +1,12 @@
+-- `pop_numbers` meets its contract.
+use Rattle.expr.specs.Runs.{pops, numbers, Laying, begins, numbers-go, numbers-end}
+use Prim.Native.Nat.{◌-◌}
+use native.Mathlib.Omega.{arith}
+use borrow.Author.Rules.{rules}
+use Rattle.expr.proofs.runs.pop_numbers.Given as goal
+
+abbrev pub invariant-loop-j : goal.invariant-loop-j
+invariant-loop-j l = Laying numbers (pops l.k) l.n l.end 0 l.initial.code l.code l.j l.i l.i
+
+abbrev pub decreases-loop-j : goal.decreases-loop-j
+decreases-loop-j l = l.stop - l.j

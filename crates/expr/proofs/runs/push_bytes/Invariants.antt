@@ -1,0 +1,13 @@
+-- `push_bytes` meets its contract.
+use Rattle.expr.specs.Runs.{pushes, bytes, Laying, begins, bytes-go, bytes-end, bytes-last}
+use Prim.Native.Nat.{◌+◌, ◌-◌}
+use native.Mathlib.Omega.{arith}
+use mathlib.Core.Path.{◌∙◌}
+use borrow.Author.Rules.{rules}
+use Rattle.expr.proofs.runs.push_bytes.Given as goal
+
+abbrev pub invariant-loop-j : goal.invariant-loop-j
+invariant-loop-j l = Laying bytes pushes l.n l.end 1 l.initial.bytes l.bytes l.j (l.i + 1) l.i
+
+abbrev pub decreases-loop-j : goal.decreases-loop-j
+decreases-loop-j l = l.stop - l.j

@@ -1,0 +1,17 @@
+-- `push_all` meets its contract.
+use Rattle.emit.specs.Sinks.{sinks}
+use Rattle.expr.specs.Values.{regs_in, argued}
+use Rattle.expr.proofs.Values.{regs_none}
+use Rattle.expr.proofs.Loops.{Saying, says_begin, argue-go, says_end}
+use mathlib.Core.List.{List}
+use native.Mathlib.Omega.{arith}
+use mathlib.Core.Path.{◌≡◌, ap}
+use Prim.Native.Nat.{ℕ, ◌-◌}
+use borrow.Author.Rules.{rules}
+use Rattle.expr.proofs.steps.push_all.Given as goal
+
+abbrev pub invariant-loop-i : goal.invariant-loop-i
+invariant-loop-i l = Saying l.st (sinks l.initial.code l.initial.bytes) (argued (regs_in l.vals 0 l.n)) l.k (sinks l.code l.bytes) (argued (regs_in l.vals l.i (l.n - l.i)))
+
+abbrev pub decreases-loop-i : goal.decreases-loop-i
+decreases-loop-i l = l.n - l.i

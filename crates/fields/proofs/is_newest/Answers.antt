@@ -1,0 +1,14 @@
+-- is_newest meets its contract.
+use Rattle.fields.proofs.Kept.{newest, newest_none}
+use Rattle.tables.specs.Listed.{index_of}
+use mathlib.Core.Path.{sym, ap, ◌∙◌}
+use borrow.Author.Rules.{rules}
+use Rattle.fields.proofs.is_newest.Goals as goal
+
+pub returns-in-At : goal.returns-in-At
+unfolding index_of
+returns-in-At c = newest c.args.img.now c.args.i c.args.x c.requires.1.0 c.requires.1.1 _ (sym (ap index_of c.in-At.is) ∙ c.struct_named.ensures.index)
+
+pub returns-in-Nothing : goal.returns-in-Nothing
+unfolding index_of
+returns-in-Nothing c = absurd (newest_none c.args.img.now c.args.i c.args.x c.requires.1.0 c.requires.1.1 (sym (ap index_of c.in-Nothing.is) ∙ c.struct_named.ensures.index))

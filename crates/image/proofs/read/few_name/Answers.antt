@@ -1,0 +1,40 @@
+-- `image::read::few_name`: where no top bit is set no sum wraps (`few-room`), and then the test tells the three bytes (`few`).
+use mathlib.Core.Path.{sym, subst, ap, ◌∙◌}
+use native.Mathlib.Omega.{arith}
+use borrow.Author.Tests.{eqb-true}
+use lib.Dec.{T}
+use Rattle.rules.specs.Bytes.{name_byte_lem}
+use Rattle.image.proofs.Swar.{few_room, few}
+use Rattle.image.proofs.Names.{few_named}
+use borrow.Author.Rules.{rules}
+use Rattle.image.proofs.read.few_name.Goals as goal
+
+pub returns-then-w-ne0 : goal.returns-then-w-ne0
+returns-then-w-ne0 c e = absurd (subst T (sym e) tt)
+
+pub overflow_add-a : goal.overflow_add-a
+overflow_add-a c = let r = few_room c.wide.result c.wide-2.result c.wide-3.result (c.wide.ensures.1, c.wide-2.ensures.1, c.wide-3.ensures.1) c.if-w-ne0.false in omega arith
+
+pub overflow_add-a-2 : goal.overflow_add-a-2
+overflow_add-a-2 c = let r = few_room c.wide.result c.wide-2.result c.wide-3.result (c.wide.ensures.1, c.wide-2.ensures.1, c.wide-3.ensures.1) c.if-w-ne0.false in omega arith
+
+pub overflow_add-b : goal.overflow_add-b
+overflow_add-b c = let r = few_room c.wide.result c.wide-2.result c.wide-3.result (c.wide.ensures.1, c.wide-2.ensures.1, c.wide-3.ensures.1) c.if-w-ne0.false in omega arith
+
+pub overflow_add-b-2 : goal.overflow_add-b-2
+overflow_add-b-2 c = let r = few_room c.wide.result c.wide-2.result c.wide-3.result (c.wide.ensures.1, c.wide-2.ensures.1, c.wide-3.ensures.1) c.if-w-ne0.false in omega arith
+
+pub overflow_add-c : goal.overflow_add-c
+overflow_add-c c = let r = few_room c.wide.result c.wide-2.result c.wide-3.result (c.wide.ensures.1, c.wide-2.ensures.1, c.wide-3.ensures.1) c.if-w-ne0.false in omega arith
+
+pub overflow_add-c-2 : goal.overflow_add-c-2
+overflow_add-c-2 c = let r = few_room c.wide.result c.wide-2.result c.wide-3.result (c.wide.ensures.1, c.wide-2.ensures.1, c.wide-3.ensures.1) c.if-w-ne0.false in omega arith
+
+pub overflow_add-d : goal.overflow_add-d
+overflow_add-d c = let r = few_room c.wide.result c.wide-2.result c.wide-3.result (c.wide.ensures.1, c.wide-2.ensures.1, c.wide-3.ensures.1) c.if-w-ne0.false in omega arith
+
+pub overflow_add-d-2 : goal.overflow_add-d-2
+overflow_add-d-2 c = let r = few_room c.wide.result c.wide-2.result c.wide-3.result (c.wide.ensures.1, c.wide-2.ensures.1, c.wide-3.ensures.1) c.if-w-ne0.false in omega arith
+
+pub returns : goal.returns
+returns c e = let n = few c.before.before.before.before.before.wide.result c.before.before.before.wide2.result c.before.wide3.result (c.before.before.before.before.before.wide.ensures.1, c.before.before.before.wide2.ensures.1, c.before.wide3.ensures.1) c.if1.false (eqb-true _ _ e) in few_named c.before.before.before.before.before.before.before.before.args.s.now c.before.before.before.before.before.before.before.before.args.from c.before.before.before.before.before.before.before.before.args.to (omega arith) (omega arith) (ap name_byte_lem (sym c.before.before.before.before.before.wide.ensures.0) ∙ n.0, ap name_byte_lem (sym c.before.before.before.wide2.ensures.0) ∙ n.1, ap name_byte_lem (sym c.before.wide3.ensures.0) ∙ n.2)

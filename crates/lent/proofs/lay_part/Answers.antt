@@ -1,0 +1,10 @@
+-- `lay_part` meets its contract: eight stores in a row, as far as there is room.
+use Prim.Native.Nat.{◌*◌}
+use Rattle.rules.specs.Lent.{word_bytes}
+use Rattle.lent.specs.Words.{stores}
+use borrow.Author.Rules.{rules}
+use Rattle.lent.proofs.lay_part.Goals as goal
+
+pub returns : goal.returns
+unfolding word_bytes
+returns c = rw (c.lay_byte-8.ensures, c.lay_byte-7.ensures, c.lay_byte-6.ensures, c.lay_byte-5.ensures, c.lay_byte-4.ensures, c.lay_byte-3.ensures, c.lay_byte-2.ensures, c.lay_byte.ensures) (stores (8 * c.args.i) _ _ _ _ _ _ _ _ _)

@@ -1,0 +1,26 @@
+-- `link::next_open_in` meets its contract: in both loops the words so far are closed.
+use Prim.Native.Nat.{◌-◌, ◌*◌}
+use native.Mathlib.Omega.{arith}
+use borrow.Author.Tests.{not-true}
+use Rattle.isa.specs.Ruled.{is_opcode}
+use Rattle.link.specs.Closed.{ShutIn, Closed, none_yet, pass, next}
+use borrow.Author.Rules.{rules}
+use Rattle.link.proofs.next_open_in.Goals as goal
+
+pub loop-i-init : goal.loop-i-init
+loop-i-init c = none_yet c.requires.1.0
+
+pub loop-i-preserved : goal.loop-i-preserved
+loop-i-preserved c = pass c.loop-i.invariant 16 (omega arith) (c.some_open_in.ensures (not-true _ c.if-not-some_open_in.true))
+
+pub loop-i-2-init : goal.loop-i-2-init
+loop-i-2-init c = c.loop-i.invariant
+
+pub loop-i-2-preserved : goal.loop-i-2-preserved
+loop-i-2-preserved c = next c.loop-i-2.invariant (omega (arith, c.loop-i-2-test.true)) (is_opcode _ c.requires.0 _ (omega (arith, c.type_inv.out (8 * c.loop-i-2.i))) c.fact.ensures c.if-fact.true)
+
+pub returns-else-fact : goal.returns-else-fact
+returns-else-fact c = c.loop-i-2.invariant
+
+pub returns-after-loop-i-2 : goal.returns-after-loop-i-2
+returns-after-loop-i-2 c = c.loop-i-2.invariant

@@ -1,0 +1,24 @@
+-- `link::some_open` meets its contract: so far no word that was looked at is open, or `any` tells of one.
+use mathlib.Core.Path.{◌≡◌, sym, ◌∙◌}
+use mathlib.Core.Bool.{false, true≢false}
+use mathlib.Core.Logic.{⊎_elim}
+use Prim.Native.Nat.{◌-◌, ◌≤◌}
+use native.Mathlib.Omega.{arith}
+use Rattle.isa.specs.Ruled.{is_opcode}
+use Rattle.link.specs.Closed.{Shut, Each}
+use borrow.Author.Count.{below_more}
+use borrow.Author.Tests.{not-false}
+use borrow.Author.Rules.{rules}
+use Rattle.link.proofs.some_open.Goals as goal
+
+pub loop-k-preserved : goal.loop-k-preserved
+loop-k-preserved c = (
+  omega arith,
+  ⊎_elim
+      (λ w e. absurd (true≢false (sym w.1 ∙ e)))
+      (λ w e. below_more _ _ (c.loop-k.invariant.1 (sym w.1 ∙ e)) (is_opcode _ c.requires.0 _ (omega arith) c.fact.ensures (not-false _ w.0.left)))
+      c.if-not-fact.branch,
+)
+
+pub returns : goal.returns
+returns c = λ e m h. c.loop-k.invariant.1 e m (omega (arith, c.loop-k-test.false, h))

@@ -1,0 +1,27 @@
+-- next_due meets its contract.
+use Rattle.lookup.proofs.Signs.{repeated_rest}
+use Rattle.lookup.specs.Answers.{due_of}
+use Rattle.lookup.specs.Places.{places_end, places_more, places_zero}
+use Rattle.rules.specs.Analyse.{repeated}
+use borrow.Author.Rules.{rules}
+use Rattle.lookup.proofs.next_due.Goals as goal
+
+pub returns-then-k-eq0 : goal.returns-then-k-eq0
+unfolding due_of repeated
+returns-then-k-eq0 c = rw (c.in-Words.is, c.if-k-eq0.true)
+
+pub returns-then-left-eq0 : goal.returns-then-left-eq0
+unfolding due_of
+returns-then-left-eq0 c = rw (c.in-Fields.is, places_zero c.args.img.now _ _ _ c.if-left-eq0.true)
+
+pub returns-then-end-at : goal.returns-then-end-at
+unfolding due_of
+returns-then-end-at c = rw (c.in-Fields.is, places_end c.args.img.now _ _ _ c.if-end-at.true)
+
+pub returns-else-k-eq0 : goal.returns-else-k-eq0
+unfolding due_of
+returns-else-k-eq0 c = rw c.in-Words.is (repeated_rest _ c.if-k-eq0.false)
+
+pub returns-else-end-at : goal.returns-else-end-at
+unfolding due_of
+returns-else-end-at c = rw (c.in-Fields.is, places_more c.args.img.now _ _ _ c.if-left-eq0.false c.if-end-at.false, c.past.ensures.0)

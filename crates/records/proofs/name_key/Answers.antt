@@ -1,0 +1,6 @@
+-- name_key meets its contract.
+use borrow.Author.Rules.{rules}
+use Rattle.records.proofs.name_key.Goals as goal
+
+pub returns : goal.returns
+returns c = rw (← c.name.ensures) c.key.ensures

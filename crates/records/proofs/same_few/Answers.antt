@@ -1,0 +1,30 @@
+-- same_few meets its contract.
+use mathlib.Core.Path.{◌≡◌}
+use Prim.Native.Nat.{ℕ, ◌-◌, ◌<◌, ◌≤◌}
+use lib.ListN.{length, get_or}
+use native.Mathlib.Omega.{arith}
+use Rattle.records.specs.Names.{apart, agree}
+use Rattle.records.proofs.Eights.{more}
+use borrow.Author.Rules.{rules}
+use Rattle.records.proofs.same_few.Goals as goal
+
+pub loop-i-init : goal.loop-i-init
+loop-i-init c = (omega arith, λ k h. absurd (omega arith))
+
+pub bounds-a-i : goal.bounds-a-i
+bounds-a-i c = omega arith
+
+pub bounds-b-i : goal.bounds-b-i
+bounds-b-i c = omega arith
+
+pub returns-then-a-i : goal.returns-then-a-i
+returns-then-a-i c = apart c.args.a.now c.args.b.now (λ l. get_or l c.loop-i.i 0) c.if-a-i.true
+
+pub loop-i-smaller : goal.loop-i-smaller
+loop-i-smaller c = omega arith
+
+pub loop-i-preserved : goal.loop-i-preserved
+loop-i-preserved c = (omega arith, more c.args.a.now c.args.b.now c.loop-i.i c.loop-i.invariant.1 c.if-a-i.false)
+
+pub returns : goal.returns
+returns c = agree c.args.a.now c.args.b.now c.requires (λ k h. c.loop-i.invariant.1 k (omega arith))

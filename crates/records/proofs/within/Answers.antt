@@ -1,0 +1,8 @@
+-- within meets its contract.
+use native.Mathlib.Omega.{arith}
+use Rattle.records.proofs.Outside.{name_near}
+use borrow.Author.Rules.{rules}
+use Rattle.records.proofs.within.Goals as goal
+
+pub returns : goal.returns
+returns c = (omega (arith, c.least.ensures), (name_near _ _ _ c.least.ensures, λ h. omega (arith, c.least.ensures, h)))

@@ -1,0 +1,13 @@
+-- `find_expr` meets its contract.
+use mathlib.Core.Path.{◌≡◌, refl}
+use borrow.Author.Rules.{rules}
+use Rattle.emit.specs.declared.St.{St}
+use Rattle.seek.specs.Spots.{into}
+use Rattle.seek.specs.Lists.{Down, down_begin, down_go, down_own, down_end}
+use Rattle.seek.proofs.find_expr.Given as goal
+
+abbrev pub invariant-loop-d : goal.invariant-loop-d
+invariant-loop-d l = (st : St) → l.initial.t ≡ into l.at l.end st → Down l.img l.scope l.rules l.depth l.at st l.end l.want l.d l.t
+
+abbrev pub decreases-loop-d : goal.decreases-loop-d
+decreases-loop-d l = l.d

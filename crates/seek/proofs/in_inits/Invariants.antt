@@ -1,0 +1,12 @@
+-- `in_inits` meets its contract.
+use Prim.Native.Nat.{◌-◌, ◌≤◌}
+use native.Mathlib.Omega.{arith}
+use borrow.Author.Rules.{rules}
+use Rattle.seek.specs.Lists.{Inits, rest_begin, inits-go, inits-in, inits-past, inits-whole}
+use Rattle.seek.proofs.in_inits.Given as goal
+
+abbrev pub invariant-loop-i : goal.invariant-loop-i
+invariant-loop-i l = (l.i ≤ 64) × Inits l.img l.scope l.rules l.d l.e l.first l.initial.s l.want l.p l.s l.i
+
+abbrev pub decreases-loop-i : goal.decreases-loop-i
+decreases-loop-i l = 64 - l.i

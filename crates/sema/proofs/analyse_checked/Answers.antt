@@ -1,0 +1,39 @@
+-- analyse_checked meets its contract.
+use Rattle.rules.specs.Read.{contract_at}
+use Rattle.rules.specs.Meant.{accesses}
+use Rattle.notes.specs.Notes.{written}
+use Rattle.notes.specs.Wrote.{refused, wrote}
+use Prim.Native.Nat.{◌-◌, ◌≤◌}
+use Rattle.lookup.specs.Answers.{checked_of}
+use Rattle.sema.proofs.Functions.{accesses_from, from, from-bad, from-done, from_next, from_start, names_fit, notes_done, notes_next, notes_start}
+use Rattle.sema.specs.Entry.{analysis}
+use Rattle.tables.specs.Listed.{functions_in}
+use borrow.Author.Rules.{rules}
+use lib.ListN.{length}
+use mathlib.Core.Path.{◌∙◌, ◌≡◌, ap, refl, sym}
+use native.Mathlib.Omega.{arith}
+use Rattle.sema.proofs.analyse_checked.Goals as goal
+
+pub loop-i-init : goal.loop-i-init
+loop-i-init c = (omega arith, (refl, (from_start c.args.img.now, notes_start c.args.img.now _)))
+
+pub analyze_function-a-requires : goal.analyze_function-a-requires
+analyze_function-a-requires c = (c.requires.0, rw (c.function_place-p.ensures c.args.img.now c.requires.0 (omega (arith, c.loop-i-test.true, c.function_count-n.ensures c.args.img.now c.requires.0))) (omega (arith, names_fit c.args.img.now c.requires.1.0 c.loop-i.i (omega (arith, c.loop-i-test.true, c.function_count-n.ensures c.args.img.now c.requires.0)), c.loop-i.invariant.1.0, c.requires.1.1)))
+
+pub overflow_add-i : goal.overflow_add-i
+overflow_add-i c = omega arith
+
+pub loop-i-smaller : goal.loop-i-smaller
+loop-i-smaller c = omega (arith, c.loop-i-test.true, c.function_count-n.ensures c.args.img.now c.requires.0)
+
+pub loop-i-preserved : goal.loop-i-preserved
+unfolding checked_of
+loop-i-preserved c = (omega (arith, c.loop-i-test.true, c.function_count-n.ensures c.args.img.now c.requires.0), (c.analyze_function-a.ensures.1.0 ∙ c.loop-i.invariant.1.0, (c.loop-i.invariant.1.1.0 ∙ from_next c.args.img.now c.loop-i.i (omega (arith, c.loop-i-test.true, c.function_count-n.ensures c.args.img.now c.requires.0)) (sym (ap (checked_of c.args.img.now) c.in-Fine.is) ∙ rw (c.function_place-p.ensures c.args.img.now c.requires.0 (omega (arith, c.loop-i-test.true, c.function_count-n.ensures c.args.img.now c.requires.0))) at c.analyze_function-a.ensures.0), c.loop-i.invariant.1.1.1 ∙ notes_next c.args.img.now _ c.loop-i.i (omega (arith, c.loop-i-test.true, c.function_count-n.ensures c.args.img.now c.requires.0)) ((rw (c.function_place-p.ensures c.args.img.now c.requires.0 (omega (arith, c.loop-i-test.true, c.function_count-n.ensures c.args.img.now c.requires.0))) at c.analyze_function-a.ensures.1.1).all _ (ap (checked_of c.args.img.now) c.in-Fine.is)))))
+
+pub returns-in-Refused : goal.returns-in-Refused
+unfolding checked_of
+returns-in-Refused c = rw c.in-Refused.is (from-bad c.args.img.now c.loop-i.i (omega (arith, c.loop-i-test.true, c.function_count-n.ensures c.args.img.now c.requires.0)) (sym (ap (checked_of c.args.img.now) c.in-Refused.is) ∙ rw (c.function_place-p.ensures c.args.img.now c.requires.0 (omega (arith, c.loop-i-test.true, c.function_count-n.ensures c.args.img.now c.requires.0))) at c.analyze_function-a.ensures.0) ∙ sym c.loop-i.invariant.1.1.0, refused (contract_at c.args.img.now) _ _ refl)
+
+pub returns : goal.returns
+unfolding checked_of
+returns c = (from-done c.args.img.now c.loop-i.i (omega (arith, c.loop-i-test.false, c.function_count-n.ensures c.args.img.now c.requires.0)) ∙ sym c.loop-i.invariant.1.1.0, wrote (contract_at c.args.img.now) _ (sym (c.loop-i.invariant.1.1.1 ∙ notes_done c.args.img.now _ c.loop-i.i (omega (arith, c.loop-i-test.false, c.function_count-n.ensures c.args.img.now c.requires.0)))))

@@ -1,0 +1,13 @@
+-- `front::analysis` meets its contract: the fault of the check, or what follows.
+use mathlib.Core.Path.{◌∙◌, ap, sym}
+use Rattle.rules.specs.Build.{passed}
+use Rattle.sema.proofs.Fronts.{faulted}
+use borrow.Author.Rules.{rules}
+use Rattle.sema.proofs.front.analysis.Goals as goal
+
+pub behind_check-requires : goal.behind_check-requires
+unfolding passed
+behind_check-requires c = (ap passed (sym c.check.ensures ∙ c.in-Sound.is), c.requires)
+
+pub returns-in-Fault : goal.returns-in-Fault
+returns-in-Fault c = faulted _ _ _ (sym c.check.ensures ∙ c.in-Fault.is)

@@ -1,0 +1,14 @@
+-- clear_heads meets its contract.
+use mathlib.Core.Path.{◌≡◌}
+use Prim.Native.Nat.{◌-◌, ◌≤◌}
+use native.Mathlib.Omega.{arith}
+use Rattle.tables.specs.Listed.{Cleared}
+use Rattle.tables.proofs.Fill.{clear_none, clear_more}
+use borrow.Author.Rules.{rules}
+use Rattle.tables.proofs.clear_heads.Given as goal
+
+abbrev pub invariant-loop-b : goal.invariant-loop-b
+invariant-loop-b l = (l.b ≤ 61) × Cleared l.initial.t l.t l.base l.b
+
+abbrev pub decreases-loop-b : goal.decreases-loop-b
+decreases-loop-b l = 61 - l.b

@@ -1,0 +1,6 @@
+-- function_place meets its contract.
+use borrow.Author.Rules.{rules}
+use Rattle.tables.proofs.function_place.Goals as goal
+
+pub returns : goal.returns
+returns c = λ img h. c.place_at.ensures img _ h.functions

@@ -1,0 +1,14 @@
+-- last_named meets its contract.
+use mathlib.Core.Path.{sym, ◌∙◌}
+use Prim.Native.Nat.{◌+◌, ◌≤◌}
+use native.Mathlib.Omega.{arith}
+use lib.ListN.{length}
+use Rattle.tables.proofs.Search.{Search, older, start, skip, hit, miss}
+use borrow.Author.Rules.{rules}
+use Rattle.tables.proofs.last_named.Given as goal
+
+abbrev pub invariant-loop-k : goal.invariant-loop-k
+invariant-loop-k l = (l.base + 62 + l.k ≤ length l.t) × Search l.img l.t l.base l.x l.k
+
+abbrev pub decreases-loop-k : goal.decreases-loop-k
+decreases-loop-k l = l.k

@@ -1,0 +1,6 @@
+-- place_at meets its contract.
+use borrow.Author.Rules.{rules}
+use Rattle.tables.proofs.place_at.Goals as goal
+
+pub returns-then-i-t : goal.returns-then-i-t
+returns-then-i-t c = λ img ps l h. rw (c.place_in.ensures, c.cell.ensures) (l.places _ h)

@@ -1,0 +1,9 @@
+-- storage_named meets its contract.
+use borrow.Author.Rules.{rules}
+use Rattle.tables.proofs.storage_named.Goals as goal
+
+pub last_named-requires : goal.last_named-requires
+last_named-requires c = (_, c.requires.storage)
+
+pub returns : goal.returns
+returns c = c.last_named.ensures _ c.requires.storage

@@ -1,0 +1,13 @@
+-- `find_stmt` meets its contract.
+use mathlib.Core.Path.{◌≡◌, refl, ◌∙◌}
+use Rattle.emit.specs.declared.St.{St}
+use Rattle.trace.specs.Moves.{entering}
+use Rattle.trace.specs.Lists.{Down, down_begin, down-settled, down-go, down_end}
+use borrow.Author.Rules.{rules}
+use Rattle.trace.proofs.find_stmt.Given as goal
+
+abbrev pub invariant-loop-d : goal.invariant-loop-d
+invariant-loop-d l = (st : St) → l.initial.t ≡ entering l.list l.end st → Down l.img l.tables l.notes l.initial.scope l.rules l.depth l.list st l.end l.want l.scope l.d l.t
+
+abbrev pub decreases-loop-d : goal.decreases-loop-d
+decreases-loop-d l = l.d

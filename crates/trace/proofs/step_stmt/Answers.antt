@@ -1,0 +1,97 @@
+-- `step_stmt` meets its contract.
+use mathlib.Core.Path.{ap}
+use borrow.Author.Rules.{rules}
+use Rattle.rules.specs.Bytes.{pick}
+use Rattle.rules.specs.Read.{stmt_kind_of, sLet, sConstrain, sAssign, sStorage, sMapping, sIf, sWhile, sFor, sReturn, sEmit, sExpr}
+use Rattle.trace.specs.Parts.{let_in, constrain_in, assign_in, storage_in, just_in}
+use Rattle.trace.specs.Lists.{kind_in, kind_ready, kind_own}
+use Rattle.trace.proofs.step_stmt.Goals as goal
+
+pub in_value-requires : goal.in_value-requires
+in_value-requires c = c.requires.known
+
+pub in_value-requires-in-33 : goal.in_value-requires-in-33
+in_value-requires-in-33 c = c.requires.known
+
+pub in_value-requires-in-34 : goal.in_value-requires-in-34
+in_value-requires-in-34 c = c.requires.known
+
+pub in_value-requires-in-35 : goal.in_value-requires-in-35
+in_value-requires-in-35 c = c.requires.known
+
+pub in_mapping-requires : goal.in_mapping-requires
+in_mapping-requires c = c.requires.known
+
+pub in_if-requires : goal.in_if-requires
+unfolding stmt_kind_of pick
+in_if-requires c = kind_ready c.args.img.now c.args.d c.args.at sIf c.kind.ensures.0 (ap stmt_kind_of c.in-37.is) c.requires
+
+pub in_while-requires : goal.in_while-requires
+unfolding stmt_kind_of pick
+in_while-requires c = kind_ready c.args.img.now c.args.d c.args.at sWhile c.kind.ensures.0 (ap stmt_kind_of c.in-38.is) c.requires
+
+pub in_for-requires : goal.in_for-requires
+unfolding stmt_kind_of pick
+in_for-requires c = kind_ready c.args.img.now c.args.d c.args.at sFor c.kind.ensures.0 (ap stmt_kind_of c.in-39.is) c.requires
+
+pub in_return-requires : goal.in_return-requires
+in_return-requires c = c.requires.known
+
+pub in_emit-requires : goal.in_emit-requires
+in_emit-requires c = c.requires.known
+
+pub in_value-requires-in-42 : goal.in_value-requires-in-42
+in_value-requires-in-42 c = c.requires.known
+
+pub returns-in-32 : goal.returns-in-32
+unfolding stmt_kind_of pick
+returns-in-32 c = kind_in c.args.img.now c.args.d c.args.at sLet c.kind.ensures.0 (ap stmt_kind_of c.in-32.is) (let_in c.body-first.ensures.0 c.past-second.ensures.0 c.in_value.ensures)
+
+pub returns-in-33 : goal.returns-in-33
+unfolding stmt_kind_of pick
+returns-in-33 c = kind_in c.args.img.now c.args.d c.args.at sConstrain c.kind.ensures.0 (ap stmt_kind_of c.in-33.is) (constrain_in c.body-first.ensures.0 c.in_value-in-33.ensures)
+
+pub returns-in-34 : goal.returns-in-34
+unfolding stmt_kind_of pick
+returns-in-34 c = kind_in c.args.img.now c.args.d c.args.at sAssign c.kind.ensures.0 (ap stmt_kind_of c.in-34.is) (assign_in c.body-first.ensures.0 c.past-second.ensures.0 c.in_value-in-34.ensures)
+
+pub returns-in-35 : goal.returns-in-35
+unfolding stmt_kind_of pick
+returns-in-35 c = kind_in c.args.img.now c.args.d c.args.at sStorage c.kind.ensures.0 (ap stmt_kind_of c.in-35.is) (storage_in c.body-first.ensures.0 c.past-second.ensures.0 c.in_value-in-35.ensures)
+
+pub returns-in-36 : goal.returns-in-36
+unfolding stmt_kind_of pick
+returns-in-36 c = kind_in c.args.img.now c.args.d c.args.at sMapping c.kind.ensures.0 (ap stmt_kind_of c.in-36.is) c.in_mapping.ensures
+
+pub shape_of-scope-in-37 : goal.shape_of-scope-in-37
+shape_of-scope-in-37 c = c.in_if.auto.0
+
+pub returns-in-37 : goal.returns-in-37
+unfolding stmt_kind_of pick
+returns-in-37 c = kind_in c.args.img.now c.args.d c.args.at sIf c.kind.ensures.0 (ap stmt_kind_of c.in-37.is) c.in_if.ensures
+
+pub returns-in-38 : goal.returns-in-38
+unfolding stmt_kind_of pick
+returns-in-38 c = kind_in c.args.img.now c.args.d c.args.at sWhile c.kind.ensures.0 (ap stmt_kind_of c.in-38.is) c.in_while.ensures
+
+pub shape_of-scope-in-39 : goal.shape_of-scope-in-39
+shape_of-scope-in-39 c = c.in_for.auto.0
+
+pub returns-in-39 : goal.returns-in-39
+unfolding stmt_kind_of pick
+returns-in-39 c = kind_in c.args.img.now c.args.d c.args.at sFor c.kind.ensures.0 (ap stmt_kind_of c.in-39.is) c.in_for.ensures
+
+pub returns-in-40 : goal.returns-in-40
+unfolding stmt_kind_of pick
+returns-in-40 c = kind_in c.args.img.now c.args.d c.args.at sReturn c.kind.ensures.0 (ap stmt_kind_of c.in-40.is) c.in_return.ensures
+
+pub returns-in-41 : goal.returns-in-41
+unfolding stmt_kind_of pick
+returns-in-41 c = kind_in c.args.img.now c.args.d c.args.at sEmit c.kind.ensures.0 (ap stmt_kind_of c.in-41.is) c.in_emit.ensures
+
+pub returns-in-42 : goal.returns-in-42
+unfolding stmt_kind_of pick
+returns-in-42 c = kind_in c.args.img.now c.args.d c.args.at sExpr c.kind.ensures.0 (ap stmt_kind_of c.in-42.is) (just_in c.body-first.ensures.0 c.in_value-in-42.ensures)
+
+pub returns-in_default : goal.returns-in_default
+returns-in_default c = kind_own c.kind.ensures.0 c.in_default.in_default-own.rest.0.0.0.0.0.0.0.0.0.0.1 c.in_default.in_default-own.rest.0.0.0.0.0.0.0.0.0.1 c.in_default.in_default-own.rest.0.0.0.0.0.0.0.0.1 c.in_default.in_default-own.rest.0.0.0.0.0.0.0.1 c.in_default.in_default-own.rest.0.0.0.0.0.0.1 c.in_default.in_default-own.rest.0.0.0.0.0.1 c.in_default.in_default-own.rest.0.0.0.0.1 c.in_default.in_default-own.rest.0.0.0.1 c.in_default.in_default-own.rest.0.0.1 c.in_default.in_default-own.rest.0.1 c.in_default.in_default-own.rest.1 c.own.ensures
