@@ -50,13 +50,13 @@ bounded (suc l) img at end d i v q m h b e =
     (vars_bounded d (kind_at img at) v w.few b) w.parts
 
 -- What holds of each sound record of a List.
-each_run : (P : ℕ → Type 0) (fuel l : ℕ) (img : List ℕ) (end d i p v m : ℕ) → ((q j n o : ℕ) → record_of l img q end (class_of d).item j n ≡ Sound (after img q) o → P q)
+each_run : (P : ℕ → Type 0) (l : ℕ) (img : List ℕ) (end d fuel i p v m : ℕ) → ((q j n o : ℕ) → record_of l img q end (class_of d).item j n ≡ Sound (after img q) o → P q)
     → Run l img end d 2 i p v m → Each P (places_from fuel img p end)
 unfolding due_at pick places_from
-each_run P fuel l img end d i p v m f (no_more e n c) = subst (Each P) (sym (places_end fuel img p end e)) tt
-each_run P zero l img end d i p v m f (one_more n s z o e r) = tt
-each_run P (suc fuel) l img end d i p v m f (one_more n s z o e r) =
-    subst (Each P) (sym (places_more fuel img p end s)) (f p i v n e, each_run P fuel l img end d (i + 1) (after img p) n m f r)
+each_run P l img end d fuel i p v m f (no_more e n c) = subst (Each P) (sym (places_end fuel img p end e)) tt
+each_run P l img end d zero i p v m f (one_more n s z o e r) = tt
+each_run P l img end d (suc fuel) i p v m f (one_more n s z o e r) =
+    subst (Each P) (sym (places_more fuel img p end s)) (f p i v n e, each_run P l img end d fuel (i + 1) (after img p) n m f r)
 
 -- As a part of an image.
 each_in : (P : ℕ → Type 0) (B l : ℕ) (img : List ℕ) (at end d i v q m : ℕ) → end ≤ length img → (class_of d).low ≡ 2 → (class_of d).high ≡ 2
@@ -68,7 +68,7 @@ each_in P B (suc l) img at end d i v q m h lo hi f e =
     let w = stands l img at end d i v q m h e in
     let k : kind_at img at ≡ 2 = omega (arith, w.low, w.high) in
     let g : after img at ≤ length img = omega (arith, w.within) in
-    each_run P B l img (after img at) d 0 (inside img at) (vars_in_lem d 2 v) m (λ q₁ j n o. f l q₁ (after img at) j n o g) (of_kind l img at end d i v m 2 k w)
+    each_run P l img (after img at) d B 0 (inside img at) (vars_in_lem d 2 v) m (λ q₁ j n o. f l q₁ (after img at) j n o g) (of_kind l img at end d i v m 2 k w)
 
 -- The type of a Field is short.
 field_type : (l : ℕ) (img : List ℕ) (at end d i v q m : ℕ) → end ≤ length img → (class_of d).low ≡ 17 → (class_of d).high ≡ 17 → record_of l img at end d i v ≡ Sound q m
@@ -105,14 +105,14 @@ record Params (img : List ℕ) (p e v m : ℕ) (ps : List ℕ) : Type 0 where
   count : v + length ps ≤ m
 
 -- Each is counted, so that the 513th is refused.
-params_run : (fuel l : ℕ) (img : List ℕ) (end i p v m : ℕ) → end ≤ length img → 512 ≤ fuel + v → Run l img end due.Params 2 i p v m → Params img p end v m (places_from fuel img p end)
+params_run : (l : ℕ) (img : List ℕ) (end fuel i p v m : ℕ) → end ≤ length img → 512 ≤ fuel + v → Run l img end due.Params 2 i p v m → Params img p end v m (places_from fuel img p end)
 unfolding pick class_of classes due_at
-params_run fuel l img end i p v m h b (no_more e n c) =
+params_run l img end fuel i p v m h b (no_more e n c) =
     subst (Params img p end v m) (sym (places_end fuel img p end e)) (record { small = omega arith; reads = read_all e; count = omega arith })
-params_run zero l img end i p v m h b (one_more n s z o e r) = absurd (let a = param l img p end i v (after img p) n h e in omega (arith, a.2))
-params_run (suc fuel) l img end i p v m h b (one_more n s z o e r) =
+params_run l img end zero i p v m h b (one_more n s z o e r) = absurd (let a = param l img p end i v (after img p) n h e in omega (arith, a.2))
+params_run l img end (suc fuel) i p v m h b (one_more n s z o e r) =
     let a = param l img p end i v (after img p) n h e in
-    let t = params_run fuel l img end (i + 1) (after img p) n m h (omega (arith, a.1)) r in
+    let t = params_run l img end fuel (i + 1) (after img p) n m h (omega (arith, a.1)) r in
     subst (Params img p end v m) (sym (places_more fuel img p end s)) (record { small = omega (arith, a.0, t.small); reads = read_one s t.reads; count = omega (arith, a.1, t.count) })
 
 -- The List of them.
@@ -123,7 +123,7 @@ params (suc l) img at end i v q m h e =
     let w = stands l img at end due.Params i v q m h e in
     let k : kind_at img at ≡ 2 = omega (arith, w.low, w.high) in
     let f : after img at ≤ length img = omega (arith, w.within) in
-    (params_run 512 l img (after img at) 0 (inside img at) v m f (omega arith) (of_kind l img at end due.Params i v m 2 k w), w.payload)
+    (params_run l img (after img at) 512 0 (inside img at) v m f (omega arith) (of_kind l img at end due.Params i v m 2 k w), w.payload)
 
 -- The return type: a List of one Name at most.
 result_run : (l : ℕ) (img : List ℕ) (end i p v m : ℕ) → end ≤ length img → Run l img end due.Result 2 i p v m → v ≤ m
@@ -142,7 +142,7 @@ result (suc l) img at end i v q m h e =
     let k : kind_at img at ≡ 2 = omega (arith, w.low, w.high) in
     let f : after img at ≤ length img = omega (arith, w.within) in
     let r = of_kind l img at end due.Result i v m 2 k w in
-    (run_reads 1 l img (after img at) due.Result 0 (inside img at) v m f (omega arith) r, w.own, result_run l img (after img at) 0 (inside img at) v m f r)
+    (run_reads l img (after img at) due.Result 1 0 (inside img at) v m f (omega arith) r, w.own, result_run l img (after img at) 0 (inside img at) v m f r)
 
 -- A function that stands from p to e.
 record GoodFunction (img : List ℕ) (p e : ℕ) (f : Function) : Type 0 where
@@ -204,7 +204,7 @@ list (suc l) B img at end d i v q m h lo hi b e =
     let w = stands l img at end d i v q m h e in
     let k : kind_at img at ≡ 2 = omega (arith, w.low, w.high) in
     let f : after img at ≤ length img = omega (arith, w.within) in
-    run_reads B l img (after img at) d 0 (inside img at) (vars_in_lem d 2 v) m f (omega arith) (of_kind l img at end d i v m 2 k w)
+    run_reads l img (after img at) d B 0 (inside img at) (vars_in_lem d 2 v) m f (omega arith) (of_kind l img at end d i v m 2 k w)
 
 -- A struct's fields, and those of each struct of a List.
 struct : (l : ℕ) (img : List ℕ) (at end i v q m : ℕ) → end ≤ length img → record_of l img at end due.Struct i v ≡ Sound q m → Complete 64 img (second img at)
@@ -242,16 +242,16 @@ record GoodFunctions (img : List ℕ) (p e : ℕ) (fs : List Function) : Type 0 
   marks : (C : Contract) → Sparse img p e (of_functions C fs)
 
 -- From the i-th on.
-functions_run : (fuel l : ℕ) → l ≤ 64 → (img : List ℕ) (end i p v m : ℕ) → end ≤ length img → v ≤ 512 → 256 ≤ fuel + i → Run l img end due.Functions 2 i p v m
+functions_run : (l : ℕ) → l ≤ 64 → (img : List ℕ) (end fuel i p v m : ℕ) → end ≤ length img → v ≤ 512 → 256 ≤ fuel + i → Run l img end due.Functions 2 i p v m
     → GoodFunctions img p end (map (function_at img) (places_from fuel img p end))
 unfolding pick class_of classes due_at nodes_functions of_function of_functions
-functions_run fuel l g img end i p v m h u b (no_more e n c) =
+functions_run l g img end fuel i p v m h u b (no_more e n c) =
     subst (λ ps. GoodFunctions img p end (map (function_at img) ps)) (sym (places_end fuel img p end e)) (record { small = omega arith; whole = tt; names = tt; marks = λ C. sparse_none img p end })
-functions_run zero zero g img end i p v m h u b (one_more n s z o e r) = none_left img p end _ i v (after img p) n e
-functions_run zero (suc l) g img end i p v m h u b (one_more n s z o e r) = absurd (let w = stands l img p end due.Function i v (after img p) n h e in omega (arith, w.room))
-functions_run (suc fuel) l g img end i p v m h u b (one_more n s z o e r) =
+functions_run zero g img end zero i p v m h u b (one_more n s z o e r) = none_left img p end _ i v (after img p) n e
+functions_run (suc l) g img end zero i p v m h u b (one_more n s z o e r) = absurd (let w = stands l img p end due.Function i v (after img p) n h e in omega (arith, w.room))
+functions_run l g img end (suc fuel) i p v m h u b (one_more n s z o e r) =
     let a = function l g img p end i v (after img p) n h u e in
-    let t = functions_run fuel l g img end (i + 1) (after img p) n m h (bounded l img p end due.Function i v (after img p) n h u e) (omega arith) r in
+    let t = functions_run l g img end fuel (i + 1) (after img p) n m h (bounded l img p end due.Function i v (after img p) n h u e) (omega arith) r in
     subst (λ ps. GoodFunctions img p end (map (function_at img) ps)) (sym (places_more fuel img p end s))
     (record {
       small = omega (arith, a.small, t.small);
@@ -269,7 +269,7 @@ functions (suc l) g img at end i v q m h u e =
     let w = stands l img at end due.Functions i v q m h e in
     let k : kind_at img at ≡ 2 = omega (arith, w.low, w.high) in
     let f : after img at ≤ length img = omega (arith, w.within) in
-    let t = functions_run 256 l (omega arith) img (after img at) 0 (inside img at) v m f u (omega arith) (of_kind l img at end due.Functions i v m 2 k w) in
+    let t = functions_run l (omega arith) img (after img at) 256 0 (inside img at) v m f u (omega arith) (of_kind l img at end due.Functions i v m 2 k w) in
     record { small = omega (arith, w.payload, t.small); whole = t.whole; names = t.names; marks = λ C. sparse_in (omega (arith, w.payload)) (omega arith) (t.marks C) }
 
 -- What the check of an image comes to.

@@ -79,17 +79,17 @@ inits_more k f img p e h =
     ap (λ (b : Bool). when b (λ _. Inits.init p (name_in img p) (f (second img p)) (inits_from k f img (after img p) e)) Inits.no-init) (lt-ltb p e h)
 
 -- The expressions of a List, its records from the i-th on.
-exprs_run : (fuel l : ℕ) (img : List ℕ) (D : ℕ) → l ≤ D → Level img l → (end d i p v m : ℕ) → end ≤ length img
+exprs_run : (l : ℕ) (img : List ℕ) (D : ℕ) → l ≤ D → Level img l → (end d fuel i p v m : ℕ) → end ≤ length img
     → (class_of (class_of d).item).low ≡ 64 → (class_of (class_of d).item).high ≡ 71 → (class_of (class_of d).item).most ≤ fuel + i
     → Run l img end d 2 i p v m → Goods img p end v m (exprs_from fuel (expr_at D img) img p end)
 unfolding due_at pick nodes-exprs Whole-exprs ofExprs
-exprs_run fuel l img D g L end d i p v m h lo hi b (no_more e n c) =
+exprs_run l img D g L end d fuel i p v m h lo hi b (no_more e n c) =
     subst (Goods img p end v m) (sym (exprs_end fuel (expr_at D img) img p end e)) (record { small = omega arith; whole = tt; count = omega arith; marks = λ C Γ. sparse_none img p end })
-exprs_run zero zero img D g L end d i p v m h lo hi b (one_more n s z o e r) = none_left img p end _ i v (after img p) n e
-exprs_run zero (suc l) img D g L end d i p v m h lo hi b (one_more n s z o e r) = absurd (let w = stands l img p end _ i v (after img p) n h e in omega (arith, w.room))
-exprs_run (suc fuel) l img D g L end d i p v m h lo hi b (one_more n s z o e r) =
+exprs_run zero img D g L end d zero i p v m h lo hi b (one_more n s z o e r) = none_left img p end _ i v (after img p) n e
+exprs_run (suc l) img D g L end d zero i p v m h lo hi b (one_more n s z o e r) = absurd (let w = stands l img p end _ i v (after img p) n h e in omega (arith, w.room))
+exprs_run l img D g L end d (suc fuel) i p v m h lo hi b (one_more n s z o e r) =
     let a = L.expr D g p end _ i v (after img p) n h lo hi e in
-    let t = exprs_run fuel l img D g L end d (i + 1) (after img p) n m h lo hi (omega arith) r in
+    let t = exprs_run l img D g L end d fuel (i + 1) (after img p) n m h lo hi (omega arith) r in
     subst (Goods img p end v m) (sym (exprs_more fuel (expr_at D img) img p end s)) (record {
       small = omega (arith, a.small, t.small);
       whole = (a.whole, t.whole);
@@ -98,16 +98,16 @@ exprs_run (suc fuel) l img D g L end d i p v m h lo hi b (one_more n s z o e r) 
     })
 
 -- The Inits of a List.
-inits_run : (fuel l : ℕ) (img : List ℕ) (D : ℕ) → l ≤ D → Level img l → (end i p v m : ℕ) → end ≤ length img → 64 ≤ fuel + i
+inits_run : (l : ℕ) (img : List ℕ) (D : ℕ) → l ≤ D → Level img l → (end fuel i p v m : ℕ) → end ≤ length img → 64 ≤ fuel + i
     → Run l img end due.Inits 2 i p v m → GoodInits img p end v m (inits_from fuel (expr_at D img) img p end)
 unfolding due_at pick class_of classes nodes-inits Whole-inits ofInits
-inits_run fuel l img D g L end i p v m h b (no_more e n c) =
+inits_run l img D g L end fuel i p v m h b (no_more e n c) =
     subst (GoodInits img p end v m) (sym (inits_end fuel (expr_at D img) img p end e)) (record { small = omega arith; whole = tt; count = omega arith; marks = λ C Γ. sparse_none img p end })
-inits_run zero zero img D g L end i p v m h b (one_more n s z o e r) = none_left img p end _ i v (after img p) n e
-inits_run zero (suc l) img D g L end i p v m h b (one_more n s z o e r) = absurd (let w = stands l img p end _ i v (after img p) n h e in omega (arith, w.room))
-inits_run (suc fuel) l img D g L end i p v m h b (one_more n s z o e r) =
+inits_run zero img D g L end zero i p v m h b (one_more n s z o e r) = none_left img p end _ i v (after img p) n e
+inits_run (suc l) img D g L end zero i p v m h b (one_more n s z o e r) = absurd (let w = stands l img p end _ i v (after img p) n h e in omega (arith, w.room))
+inits_run l img D g L end (suc fuel) i p v m h b (one_more n s z o e r) =
     let (own, a) = L.init D g p end i v (after img p) n h e in
-    let t = inits_run fuel l img D g L end (i + 1) (after img p) n m h (omega arith) r in
+    let t = inits_run l img D g L end fuel (i + 1) (after img p) n m h (omega arith) r in
     subst (GoodInits img p end v m) (sym (inits_more fuel (expr_at D img) img p end s)) (record {
       small = omega (arith, a.small, t.small);
       whole = (own, a.whole, t.whole);
@@ -153,8 +153,8 @@ module _ (l : ℕ) (img : List ℕ) (L : Level img l) where
       let k : kind_at img at ≡ 2 = omega (arith, w.low, w.high) in
       let r = of_kind l img at end d i v m 2 k w in
       let f : after img at ≤ length img = omega (arith, w.within) in
-      let t = exprs_run B l img D (omega arith) L (after img at) d 0 (inside img at) (vars_in_lem d 2 v) m f ilo ihi (omega arith) r in (
-        run_reads B l img (after img at) d 0 (inside img at) (vars_in_lem d 2 v) m f (omega arith) r,
+      let t = exprs_run l img D (omega arith) L (after img at) d B 0 (inside img at) (vars_in_lem d 2 v) m f ilo ihi (omega arith) r in (
+        run_reads l img (after img at) d B 0 (inside img at) (vars_in_lem d 2 v) m f (omega arith) r,
         record { small = omega (arith, t.small, w.payload); whole = t.whole; count = omega (arith, t.count, vars_grow d 2 v refl); marks = λ C Γ. sparse_in (omega (arith, w.payload)) (omega arith) (t.marks C Γ) },
       )
 
@@ -167,8 +167,8 @@ module _ (l : ℕ) (img : List ℕ) (L : Level img l) where
       let k : kind_at img at ≡ 2 = omega (arith, w.low, w.high) in
       let r = of_kind l img at end due.Inits i v m 2 k w in
       let f : after img at ≤ length img = omega (arith, w.within) in
-      let t = inits_run 64 l img D (omega arith) L (after img at) 0 (inside img at) (vars_in_lem due.Inits 2 v) m f (omega arith) r in (
-        run_reads 64 l img (after img at) due.Inits 0 (inside img at) (vars_in_lem due.Inits 2 v) m f (omega arith) r,
+      let t = inits_run l img D (omega arith) L (after img at) 64 0 (inside img at) (vars_in_lem due.Inits 2 v) m f (omega arith) r in (
+        run_reads l img (after img at) due.Inits 64 0 (inside img at) (vars_in_lem due.Inits 2 v) m f (omega arith) r,
         record { small = omega (arith, t.small, w.payload); whole = t.whole; count = omega (arith, t.count, vars_grow due.Inits 2 v refl); marks = λ C Γ. sparse_in (omega (arith, w.payload)) (omega arith) (t.marks C Γ) },
       )
 

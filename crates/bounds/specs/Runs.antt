@@ -113,10 +113,10 @@ pub of_kind : (left : ℕ) (img : List ℕ) (at end d i vars m k : ℕ) → kind
 of_kind left img at end d i vars m k e w = subst (λ z. Run left img (after img at) d z 0 (start_of z (inside img at) (after img at)) (vars_in_lem d z vars) m) e w.parts
 
 -- The records of a List are read whole, if it may hold no more than are read.
-pub run_reads : (fuel left : ℕ) (img : List ℕ) (end d i p vars m : ℕ) → end ≤ length img → (class_of (class_of d).item).most ≤ fuel + i → Run left img end d 2 i p vars m → Reads img end p (places_from fuel img p end)
+pub run_reads : (left : ℕ) (img : List ℕ) (end d fuel i p vars m : ℕ) → end ≤ length img → (class_of (class_of d).item).most ≤ fuel + i → Run left img end d 2 i p vars m → Reads img end p (places_from fuel img p end)
 unfolding due_at pick
-run_reads fuel left img end d i p vars m h b (no_more e n c) = subst (Reads img end p) (sym (places_end fuel img p end e)) (read_all e)
-run_reads zero zero img end d i p vars m h b (one_more n l z o e r) = none_left img p end _ i vars (after img p) n e
-run_reads zero (suc left) img end d i p vars m h b (one_more n l z o e r) = absurd (let w = stands left img p end _ i vars (after img p) n h e in omega (arith, w.room))
-run_reads (suc fuel) left img end d i p vars m h b (one_more n l z o e r) =
-    subst (Reads img end p) (sym (places_more fuel img p end l)) (read_one l (run_reads fuel left img end d (i + 1) (after img p) n m h (omega arith) r))
+run_reads left img end d fuel i p vars m h b (no_more e n c) = subst (Reads img end p) (sym (places_end fuel img p end e)) (read_all e)
+run_reads zero img end d zero i p vars m h b (one_more n l z o e r) = none_left img p end _ i vars (after img p) n e
+run_reads (suc left) img end d zero i p vars m h b (one_more n l z o e r) = absurd (let w = stands left img p end _ i vars (after img p) n h e in omega (arith, w.room))
+run_reads left img end d (suc fuel) i p vars m h b (one_more n l z o e r) =
+    subst (Reads img end p) (sym (places_more fuel img p end l)) (read_one l (run_reads left img end d fuel (i + 1) (after img p) n m h (omega arith) r))

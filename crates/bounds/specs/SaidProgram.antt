@@ -1,6 +1,6 @@
 -- Every refusal of an image, before the room is looked at: Q holds of it if Q holds at the places and the names of the image.
 -- Assumes nothing.
-use Rattle.std.specs.Prelude.{◌≡◌, refl, ℕ, ◌≤◌, length}
+use Rattle.std.specs.Prelude.{◌≡◌, refl, ℕ, ◌+◌, ◌≤◌, length}
 use Rattle.std.proofs.Common.{sym}
 use Rattle.std.proofs.Math.Path.{subst}
 use Rattle.std.proofs.Math.Option.{Option, none, some}
@@ -102,19 +102,19 @@ module _ (img : List ℕ) (Q : Refusal → Type 0) (A : AllowsGeneration img Q) 
         said_then _ _ (slot_said _ x (A.mapping_unwritten p x h.0)) (λ k u. said_then _ _ (expr-said e s n h.1) (λ v w. said_then _ _ (expr-said f s _ h.2) (λ y z.
         said_then _ _ (alloc_said p _ h.0.here) (λ b q. said_then _ _ (alloc_said p _ h.0.here) (λ t r. said_ok _ tt)))))
     stmt-said (Stmt.if-else p c t e) s n h =
-        said_then _ _ (expr-said c s n h.1) (λ v u. said_then _ _ (stmts-said e s n h.5) (λ a w. said_then _ _ (stmts-said t _ _ h.3) (λ b z. said_ok _ tt)))
-    stmt-said (Stmt.while p c b) s n h = said_then _ _ (expr-said c s n h.1) (λ v u. said_then _ _ (stmts-said b s n h.3) (λ d w. said_ok _ tt))
+        said_then _ _ (expr-said c s n h.1) (λ v u. said_then _ _ (stmts_said e s n h.5) (λ a w. said_then _ _ (stmts_said t _ _ h.3) (λ b z. said_ok _ tt)))
+    stmt-said (Stmt.while p c b) s n h = said_then _ _ (expr-said c s n h.1) (λ v u. said_then _ _ (stmts_said b s n h.3) (λ d w. said_ok _ tt))
     stmt-said (Stmt.for p x e f b) s n h =
         said_then _ _ (expr-said e s n h.1) (λ v u. said_then _ _ (expr-said f s _ h.2) (λ w y. said_then _ _ (alloc_said p _ h.0.here) (λ i z.
-        said_then _ _ (alloc_said p _ h.0.here) (λ c q. said_then _ _ (stmts-said b _ _ h.4) (λ d r. said_then _ _ (alloc_said p _ h.0.here) (λ o k. said_ok _ tt))))))
+        said_then _ _ (alloc_said p _ h.0.here) (λ c q. said_then _ _ (stmts_said b _ _ h.4) (λ d r. said_then _ _ (alloc_said p _ h.0.here) (λ o k. said_ok _ tt))))))
     stmt-said (Stmt.return p e) s n h = said_then _ _ (alloc_said p n h.0) (λ t u. said_then _ _ (expr-said e s _ h.1) (λ v w. said_ok _ tt))
     stmt-said (Stmt.return-none p) s n h = said_then _ _ (alloc_said p n h) (λ t u. said_then _ _ (alloc_said p _ h) (λ z w. said_ok _ tt))
     stmt-said (Stmt.emits p x es) s n h = said_then _ _ (logs_said p es s n h.2) (λ l u. said_ok _ tt)
     stmt-said (Stmt.just p e) s n h = said_then _ _ (expr-said e s n h.1) (λ v u. said_ok _ tt)
 
-    stmts-said : (xs : Stmts) (s : Scope) (n : ℕ) → Whole-stmts img xs → Sure Q (stmts R C xs s n)
-    stmts-said Stmts.none s n h = said_ok _ tt
-    stmts-said (Stmts.more x xs) s n h = said_then _ _ (stmt-said x s n h.0) (λ d u. said_then _ _ (stmts-said xs _ _ h.1) (λ e w. said_ok _ tt))
+    stmts_said : (xs : Stmts) (s : Scope) (n : ℕ) → Whole-stmts img xs → Sure Q (stmts R C xs s n)
+    stmts_said Stmts.none s n h = said_ok _ tt
+    stmts_said (Stmts.more x xs) s n h = said_then _ _ (stmt-said x s n h.0) (λ d u. said_then _ _ (stmts_said xs _ _ h.1) (λ e w. said_ok _ tt))
 
   allocs_said : (p : ℕ) (xs : List Field) (n : ℕ) → Here img p → Sure Q (alloc_regs R C p xs n)
   unfolding alloc_regs
@@ -124,13 +124,13 @@ module _ (img : List ℕ) (Q : Refusal → Type 0) (A : AllowsGeneration img Q) 
   function_said : (f : Function) → WholeFunction img f → Sure Q (function R C f)
   unfolding function
   function_said f h =
-      said_then _ _ (alloc_said _ 1 h.here) (λ a u. said_then _ _ (allocs_said _ f.params _ h.here) (λ rs w. said_then _ _ (stmts-said f.body _ _ h.stmts) (λ d y.
+      said_then _ _ (alloc_said _ 1 h.here) (λ a u. said_then _ _ (allocs_said _ f.params _ h.here) (λ rs w. said_then _ _ (stmts_said f.body _ _ h.stmts) (λ d y.
       said_then _ _ (alloc_said _ _ h.here) (λ t z. said_then _ _ (alloc_said _ _ h.here) (λ q r. said_ok _ tt)))))
 
   functions_said : (i : ℕ) (fs : List Function) → Each (λ (f : Function). WholeFunction img f) fs → Sure Q (functions R C i fs)
   unfolding functions
   functions_said i [] h = said_ok _ tt
-  functions_said i (f ∷ fs) h = said_then _ _ (function_said f h.0) (λ c u. said_then _ _ (functions_said _ fs h.1) (λ r w. said_ok _ tt))
+  functions_said i (f ∷ fs) h = said_then _ _ (function_said f h.0) (λ c u. said_then _ _ (functions_said (i + length c) fs h.1) (λ r w. said_ok _ tt))
 
   -- Rows 40 to 47.
   generate_of : Each (λ (f : Function). WholeFunction img f) C.functions → Sure Q (generate R C)

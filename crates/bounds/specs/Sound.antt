@@ -149,7 +149,7 @@ stands left img at end d i vars q m h e =
     let r = run_of left _ img _ (end_at img at) d (kind_at img at) 0 _ q m g c.1 in
     record {
       payload = w.payload;
-      own_val = omega (arith, w.own, w.next);
+      own = omega (arith, w.own, w.next);
       within = omega (arith, w.within, w.next);
       low = o.low;
       high = o.high;

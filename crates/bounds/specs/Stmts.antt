@@ -60,17 +60,17 @@ unfolding class_of classes
 statements_most d e = subst (λ z. (class_of z).most ≤ 65536) (sym e) (omega arith)
 
 -- The statements of a List, its records from the i-th on.
-stmts_run : (fuel l : ℕ) (img : List ℕ) (D : ℕ) → l ≤ D → Level img l → (end d i p v m : ℕ) → end ≤ length img → (class_of d).item ≡ due.Statement → 65536 ≤ fuel + i
+stmts_run : (l : ℕ) (img : List ℕ) (D : ℕ) → l ≤ D → Level img l → (end d fuel i p v m : ℕ) → end ≤ length img → (class_of d).item ≡ due.Statement → 65536 ≤ fuel + i
     → Run l img end d 2 i p v m → GoodStmts img p end v m (stmts_from fuel (stmt_at_lem D img) img p end)
 unfolding due_at pick class_of classes nodes-stmts Whole-stmts vars-stmts ofStmts
-stmts_run fuel l img D g L end d i p v m h t b (no_more e n c) =
+stmts_run l img D g L end d fuel i p v m h t b (no_more e n c) =
     subst (GoodStmts img p end v m) (sym (stmts_end fuel (stmt_at_lem D img) img p end e)) (record { small = omega arith; whole = tt; count = omega arith; marks = λ C ret Γ. sparse_none img p end })
-stmts_run zero zero img D g L end d i p v m h t b (one_more n s z o e r) = none_left img p end _ i v (after img p) n e
-stmts_run zero (suc l) img D g L end d i p v m h t b (one_more n s z o e r) =
+stmts_run zero img D g L end d zero i p v m h t b (one_more n s z o e r) = none_left img p end _ i v (after img p) n e
+stmts_run (suc l) img D g L end d zero i p v m h t b (one_more n s z o e r) =
     absurd (let w = stands l img p end due.Statement i v (after img p) n h (subst (λ x. record_of (suc l) img p end x i v ≡ Sound (after img p) n) t e) in omega (arith, w.room))
-stmts_run (suc fuel) l img D g L end d i p v m h t b (one_more n s z o e r) =
+stmts_run l img D g L end d (suc fuel) i p v m h t b (one_more n s z o e r) =
     let a = L.stmt D g p end i v (after img p) n h (subst (λ x. record_of l img p end x i v ≡ Sound (after img p) n) t e) in
-    let y = stmts_run fuel l img D g L end d (i + 1) (after img p) n m h t (omega arith) r in
+    let y = stmts_run l img D g L end d fuel (i + 1) (after img p) n m h t (omega arith) r in
     subst (GoodStmts img p end v m) (sym (stmts_more fuel (stmt_at_lem D img) img p end s)) (record {
       small = omega (arith, a.small, y.small);
       whole = (a.whole, y.whole);
@@ -120,8 +120,8 @@ module _ (l : ℕ) (img : List ℕ) (L : Level img l) where
       let k : kind_at img at ≡ 2 = omega (arith, w.low, w.high) in
       let r = of_kind l img at end d i v m 2 k w in
       let f : after img at ≤ length img = omega (arith, w.within) in
-      let t = stmts_run 65536 l img D (omega arith) L (after img at) d 0 (inside img at) (vars_in_lem d 2 v) m f it (omega arith) r in (
-        run_reads 65536 l img (after img at) d 0 (inside img at) (vars_in_lem d 2 v) m f (omega (arith, statements_most d it)) r,
+      let t = stmts_run l img D (omega arith) L (after img at) d 65536 0 (inside img at) (vars_in_lem d 2 v) m f it (omega arith) r in (
+        run_reads l img (after img at) d 65536 0 (inside img at) (vars_in_lem d 2 v) m f (omega (arith, statements_most d it)) r,
         record { small = omega (arith, t.small, w.payload); whole = t.whole; count = omega (arith, t.count, vars_grow d 2 v refl); marks = λ C ret Γ. sparse_in (omega (arith, w.payload)) (omega arith) (t.marks C ret Γ) },
       )
 

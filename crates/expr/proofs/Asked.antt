@@ -68,7 +68,7 @@ module _ (img : List ℕ) (x : ℕ) (f : Found) where
 
   pub no_function : Named img x (functions_in img) f → f ≡ found.Nothing → 256 ≡ function_in img (name_at img x)
   unfolding index_of or_first
-  no-function n e = ap or_first (sym (ap index_of e) ∙ function_index_is img x f n)
+  no_function n e = ap or_first (sym (ap index_of e) ∙ function_index_is img x f n)
 
 -- The builtins, by their names in turn.
 abbrev poseidon : Name

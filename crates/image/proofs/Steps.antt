@@ -124,7 +124,7 @@ leaf_due d k e = due_by d k (eqb k 64) (eqb k 2) (ltb k 16) refl refl refl e
 module _ (k : ℕ) (e : leaf k ≡ true) where
   no_function : k ≡ 19 → ⊥
   unfolding leaf pick
-  no-function z = subst T (sym (subst (λ (x : ℕ). leaf x ≡ true) z e)) tt
+  no_function z = subst T (sym (subst (λ (x : ℕ). leaf x ≡ true) z e)) tt
 
   no_let : k ≡ 32 → ⊥
   unfolding leaf pick
@@ -150,7 +150,7 @@ no_param d k e u z = no_field k e (only k 17 (subst (λ (x : ℕ). undue x k ≡
 
 leaf_vars : (d k n : ℕ) → leaf k ≡ true → undue d k ≡ false → vars_in_lem d k n ≡ n
 unfolding pick vars_in_lem counts
-leaf_vars d k n e u = rw (ne_eqb k 19 (no-function k e), ne_eqb d 22 (no_param d k e u), ne_eqb k 32 (no_let k e), ne_eqb k 39 (no_for k e))
+leaf_vars d k n e u = rw (ne_eqb k 19 (no_function k e), ne_eqb d 22 (no_param d k e u), ne_eqb k 32 (no_let k e), ne_eqb k 39 (no_for k e))
 
 leaf_children : (child : Child) (f : ℕ) (s : List ℕ) (end d k vars : ℕ) → leaf k ≡ true → children_of child (suc f) s end end d k 0 vars ≡ Sound end vars
 unfolding pick children_of ended class_of
