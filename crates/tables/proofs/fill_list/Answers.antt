@@ -34,7 +34,7 @@ pub loop-n-preserved : goal.loop-n-preserved
 loop-n-preserved c =     let img = c.args.img.now in
     let p = c.loop-n.p in
     let fewer : c.args.most - (c.loop-n.n + 1) ≡ c.args.most - c.loop-n.n - 1 = omega arith in
-    let before = ltb-true _ _ c.if-p-end.true in (
+    let before = c.if-p-end.true in (
       omega arith,
       rw (c.past-p.ensures.0, c.name_key-key.ensures, c.body.ensures.0, fewer)
           (put img c.clear_heads.new.0 c.args.base (places_in c.args.most img c.args.l) c.loop-n.t _ _ c.loop-n.n p _
