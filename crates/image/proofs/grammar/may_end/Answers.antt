@@ -17,11 +17,3 @@ returns-then-d-eq-RETURNED c = search rules
 
 pub returns : goal.returns
 returns c = must_alone c.args.d c.if-d-ge-STORAGE_FIELD.false c.if-d-eq-NOTHING.false c.if-d-eq-RETURNED.false
-
-pub returns-then-d-eq-NOTHING : goal.returns-then-d-eq-NOTHING
-unfolding class_of
-returns-then-d-eq-NOTHING c = search rules
-
-pub returns-then-d-eq-RETURNED : goal.returns-then-d-eq-RETURNED
-unfolding class_of
-returns-then-d-eq-RETURNED c = search rules
