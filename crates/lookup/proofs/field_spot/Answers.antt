@@ -15,7 +15,7 @@ pub loop-n-smaller : goal.loop-n-smaller
 loop-n-smaller c = omega (arith, c.loop-n-test.true)
 
 pub loop-n-preserved : goal.loop-n-preserved
-loop-n-preserved c = rw c.past-p.ensures.0 (walk_on c.args.img.now c.args.l c.args.x.now c.past-end.result c.loop-n.p c.loop-n.n c.loop-n.first c.loop-n.last c.loop-n.invariant c.loop-n-test.true (ltb-true _ _ c.if-p-end.true) (rw c.body.ensures.0 at c.is_name-is.ensures) c.first_of-first.ensures c.last_of-last.ensures)
+loop-n-preserved c = rw c.past-p.ensures.0 (walk_on c.args.img.now c.args.l c.args.x.now c.past-end.result c.loop-n.p c.loop-n.n c.loop-n.first c.loop-n.last c.loop-n.invariant c.loop-n-test.true c.if-p-end.true (rw c.body.ensures.0 at c.is_name-is.ensures) c.first_of-first.ensures c.last_of-last.ensures)
 
 pub returns-then-first-eq64 : goal.returns-then-first-eq64
 returns-then-first-eq64 c = walked_none c.args.img.now c.args.l c.args.x.now c.past-end.result c.loop-n.p c.loop-n.n c.loop-n.first c.loop-n.last c.loop-n.invariant (⊎_elim (λ w. places_end c.args.img.now (64 - c.loop-n.n) c.loop-n.p c.past-end.result (ltb-false _ _ w.1.left)) (λ w. places_zero c.args.img.now (64 - c.loop-n.n) c.loop-n.p c.past-end.result (omega (arith, w.left))) c.loop-n-test.branch) c.if-first-eq64.true
