@@ -1,7 +1,6 @@
 -- `lines::lines` meets its contract: the lines of the first k words lie from the start on.
-use Rattle.std.proofs.Common.{◌-◌, ◌/◌, ◌≤◌, length, arith, rules, ltb-false, ltb-true}
-use Rattle.rules.specs.Lines.{lines_of}
-use Rattle.pieces.specs.Lays.{Lays, lays_length}
+use Rattle.std.proofs.Common.{arith}
+use Rattle.pieces.specs.Lays.{lays_length}
 use Rattle.lines.specs.Lengths.{length_lines, none_yet, more, whole}
 use Rattle.lines.proofs.lines.Goals as goal
 
@@ -14,21 +13,18 @@ put_line-n-requires c = omega (
   lays_length c.loop-k.invariant.1.1,
   c.loop-k.invariant.1.1.past,
   length_lines c.args.first c.args.words.now c.loop-k.k,
-  ltb-true c.loop-k.k (length c.args.out.now / 40) c.if-k-room.true,
+  c.if-k-room.true,
 )
 
 pub loop-k-preserved : goal.loop-k-preserved
-loop-k-preserved c =
-    let room = ltb-true c.loop-k.k (length c.args.out.now / 40) c.if-k-room.true in
-    (omega (arith, c.loop-k-test.true), (omega (arith, room), more _ _ _ c.wrapping_add_u64-i.ensures c.eight_in.ensures c.loop-k.invariant.1.1 c.put_line-n.ensures))
+loop-k-preserved c = (omega (arith, c.loop-k-test.true), (omega (arith, c.if-k-room.true), more _ _ _ c.wrapping_add_u64-i.ensures.value c.eight_in.ensures c.loop-k.invariant.1.1 c.put_line-n.ensures))
 
 pub shape_of-out-else-k-room : goal.shape_of-out-else-k-room
 shape_of-out-else-k-room c = lays_length c.loop-k.invariant.1.1
 
 pub returns-else-k-room : goal.returns-else-k-room
 returns-else-k-room c =
-    let room = ltb-false c.loop-k.k (length c.args.out.now / 40) c.if-k-room.false in
-    whole _ _ _ (omega (arith, c.loop-k.invariant.0, c.loop-k.invariant.1.0, c.loop-k-test.true, room)) c.loop-k.invariant.1.1
+    whole _ _ _ (omega (arith, c.loop-k.invariant.0, c.loop-k.invariant.1.0, c.loop-k-test.true, c.if-k-room.false)) c.loop-k.invariant.1.1
 
 pub shape_of-out-after-loop-k : goal.shape_of-out-after-loop-k
 shape_of-out-after-loop-k c = lays_length c.loop-k.invariant.1.1

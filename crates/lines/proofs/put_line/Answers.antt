@@ -1,5 +1,5 @@
 -- `lines::put_line` meets its contract: one piece behind another.
-use Rattle.std.proofs.Common.{arith, rules}
+use Rattle.std.proofs.Common.{arith}
 use Rattle.isa.specs.Word.{top_of}
 use Rattle.rules.specs.Texts.{bytes}
 use Rattle.rules.specs.Lines.{line_of}
