@@ -62,7 +62,7 @@ def declared(text):
         if line[:1].strip() and not line.startswith("--"):
             block = None
         if block == "module":
-            m = DECLARED.match(line[2:]) if line.startswith("  ") else None
+            m = DECLARED.match(line.lstrip())
             if m:
                 names.add(m[2])
             continue

@@ -1,8 +1,8 @@
 -- The table of keys and positions.
 --     one_more     the cells set to 0
---     starts, passes-by, free-slot, own-slot     the way to a key's slot
---     put-there, was_there     a position noted
---     begin_fields, one_field, end-fields, end-count     the Fields of a struct
+--     starts, passes_by, free_slot, own_slot     the way to a key's slot
+--     put_there, was_there     a position noted
+--     begin_fields, one_field, end_fields, end_count     the Fields of a struct
 --     one_struct, agreed     the structs, and what comes of it
 -- Assumes nothing.
 use mathlib.Core.Bool.{Bool, true, false}
@@ -92,8 +92,8 @@ module _ (t : List ℕ) (key : ℕ) where
   starts = record { below = mod-lt key (omega arith); same = λ u x. refl }
 
   module _ (k h : ℕ) (z : k ≡ 0 → ⊥) (w : Way t key k h) where
-    pub passes-by : (get_or t (2 * h + 1) 0 ≡ 0 → ⊥) → (get_or t (2 * h) 0 ≡ key → ⊥) → Way t key (k - 1) ((h + 1) % 509)
-    passes-by f e = record {
+    pub passes_by : (get_or t (2 * h + 1) 0 ≡ 0 → ⊥) → (get_or t (2 * h) 0 ≡ key → ⊥) → Way t key (k - 1) ((h + 1) % 509)
+    passes_by f e = record {
       below = mod-lt (h + 1) (omega arith);
       same = λ u x. w.same u x ∙ look_past u key k h z (λ y. f (sym (x.values h f) ∙ y)) (λ y. e (sym (x.keys h f) ∙ y));
     }
@@ -105,11 +105,11 @@ module _ (t : List ℕ) (key : ℕ) where
     unfolding spot_of
     at m q = let y : some h ≡ some m = ap spot_of q in cc
 
-    pub free-slot : get_or t (2 * h + 1) 0 ≡ 0 → (m : ℕ) → spot.At h ≡ spot.At m → Slot t key m
-    free-slot e m q = rw (← at m q) (record { below = w.below; held = λ f. absurd (f e); leads = leads })
+    pub free_slot : get_or t (2 * h + 1) 0 ≡ 0 → (m : ℕ) → spot.At h ≡ spot.At m → Slot t key m
+    free_slot e m q = rw (← at m q) (record { below = w.below; held = λ f. absurd (f e); leads = leads })
 
-    pub own-slot : get_or t (2 * h) 0 ≡ key → (m : ℕ) → spot.At h ≡ spot.At m → Slot t key m
-    own-slot e m q = rw (← at m q) (record { below = w.below; held = λ f. e; leads = leads })
+    pub own_slot : get_or t (2 * h) 0 ≡ key → (m : ℕ) → spot.At h ≡ spot.At m → Slot t key m
+    own_slot e m q = rw (← at m q) (record { below = w.below; held = λ f. e; leads = leads })
 
 pub no_slot : (t : List ℕ) (key m : ℕ) → spot.Nowhere ≡ spot.At m → Slot t key m
 unfolding spot_of
@@ -121,28 +121,28 @@ module _ (t : List ℕ) (key n h : ℕ) (s : Slot t key h) where
     abbrev new : List ℕ
     new = set (set t (2 * h) key) (2 * h + 1) (n + 1)
 
-    key-cell : get_or new (2 * h) 0 ≡ key
-    key-cell = get_or-set_other (set t (2 * h) key) (2 * h + 1) (2 * h) (n + 1) 0 (λ z. omega arith) ∙ get_or-set_same t (2 * h) key 0 (omega (arith, s.below))
+    key_cell : get_or new (2 * h) 0 ≡ key
+    key_cell = get_or-set_other (set t (2 * h) key) (2 * h + 1) (2 * h) (n + 1) 0 (λ z. omega arith) ∙ get_or-set_same t (2 * h) key 0 (omega (arith, s.below))
 
     value_cell : get_or new (2 * h + 1) 0 ≡ n + 1
     value_cell = get_or-set_same (set t (2 * h) key) (2 * h + 1) (n + 1) 0 (simp length-set (omega (arith, s.below)))
 
-    kept-cell : (j : ℕ) → (j ≡ 2 * h → ⊥) → (j ≡ 2 * h + 1 → ⊥) → get_or new j 0 ≡ get_or t j 0
-    kept-cell j a b = get_or-set_other (set t (2 * h) key) (2 * h + 1) j (n + 1) 0 b ∙ get_or-set_other t (2 * h) j key 0 a
+    kept_cell : (j : ℕ) → (j ≡ 2 * h → ⊥) → (j ≡ 2 * h + 1 → ⊥) → get_or new j 0 ≡ get_or t j 0
+    kept_cell j a b = get_or-set_other (set t (2 * h) key) (2 * h + 1) j (n + 1) 0 b ∙ get_or-set_other t (2 * h) j key 0 a
 
     other : (j : ℕ) → (get_or t (2 * j + 1) 0 ≡ 0 → ⊥) → j ≡ h → ⊥
     other j f z = f (rw z free)
 
     grown : Extends t new
     grown = record {
-      keys = λ j f. kept-cell (2 * j) (λ z. other j f (omega arith)) (λ z. omega arith);
-      values = λ j f. kept-cell (2 * j + 1) (λ z. omega arith) (λ z. other j f (omega arith));
+      keys = λ j f. kept_cell (2 * j) (λ z. other j f (omega arith)) (λ z. omega arith);
+      values = λ j f. kept_cell (2 * j + 1) (λ z. omega arith) (λ z. other j f (omega arith));
     }
 
-    pub put-there : Noted t new key n
-    put-there = record {
+    pub put_there : Noted t new key n
+    put_there = record {
       extends = grown;
-      is = s.leads new grown key-cell (λ z. omega (arith, value_cell)) ∙ value_cell ∙ add-one n;
+      is = s.leads new grown key_cell (λ z. omega (arith, value_cell)) ∙ value_cell ∙ add-one n;
     }
 
   pub was_there : (get_or t (2 * h + 1) 0 ≡ 0 → ⊥) → eqb (get_or t (2 * h + 1) 0) (n + 1) ≡ true → Noted t t key n
@@ -172,11 +172,11 @@ module _ (img : List ℕ) (l : ℕ) where
         either x m (inl a) = a
         either x m (inr b) = absurd (lost (none_left x ∙ b))
 
-    pub end-count : 64 ≤ n → Told t n p e → Held img t l
-    end-count h = ended (λ x. field_zero img x 64 n p e h)
+    pub end_count : 64 ≤ n → Told t n p e → Held img t l
+    end_count h = ended (λ x. field_zero img x 64 n p e h)
 
-    pub end-fields : e ≤ p → Told t n p e → Held img t l
-    end-fields h = ended (λ x. field_end img x 64 n p e h)
+    pub end_fields : e ≤ p → Told t n p e → Held img t l
+    end_fields h = ended (λ x. field_end img x 64 n p e h)
 
     module _ (u : List ℕ) (h : n < 64) (b : p < e) (o : Told t n p e) (w : Noted t u (key_of (name_in img p)) n) where
       now : (x : Name) (m : ℕ) → (c : Bool) → eq_name (name_in img p) x ≡ c
@@ -220,29 +220,29 @@ module _ (img : List ℕ) where
     same_differs none s l a none q f h = rw q h
     same_differs none s l a (some n) q f h = rw (q, eq-eqb a n (f n refl)) h
 
-    no-differs : (a : ℕ) (ps : List ℕ) → looked t (key_of x) ≡ suc a → AllHeld t ps → differs a (positions x (layouts (map (struct_at img) ps))) ≡ false
+    no_differs : (a : ℕ) (ps : List ℕ) → looked t (key_of x) ≡ suc a → AllHeld t ps → differs a (positions x (layouts (map (struct_at img) ps))) ≡ false
     unfolding layouts positions differs struct_at
-    no-differs a [] v h = refl
-    no-differs a (p ∷ ps) v h =
+    no_differs a [] v h = refl
+    no_differs a (p ∷ ps) v h =
         same_differs (last (λ (r : Struct). r.name) (name_in img p) (map (struct_at img) ps)) (struct_at img p) (layouts (map (struct_at img) ps)) a _ refl
         (λ n q. omega (arith, v, (h 0 (omega arith)).at x n q))
-        (no-differs a ps v (λ j b. h (suc j) (omega arith)))
+        (no_differs a ps v (λ j b. h (suc j) (omega arith)))
 
-    same-apart : (o : Option Struct) (s : Struct) (l : List Struct) (m : Option ℕ) → first_index (λ (f : Field). f.name) 0 x s.fields ≡ m
+    same_apart : (o : Option Struct) (s : Struct) (l : List Struct) (m : Option ℕ) → first_index (λ (f : Field). f.name) 0 x s.fields ≡ m
         → ((n : ℕ) → m ≡ some n → differs n (positions x l) ≡ false) → apart (positions x l) ≡ false → apart (positions x (kept o s l)) ≡ false
     unfolding kept positions with_position apart
-    same-apart (some r) s l m q f h = h
-    same-apart none s l none q f h = rw q h
-    same-apart none s l (some n) q f h = rw q (f n refl)
+    same_apart (some r) s l m q f h = h
+    same_apart none s l none q f h = rw q h
+    same_apart none s l (some n) q f h = rw q (f n refl)
 
-    no-apart : (ps : List ℕ) → AllHeld t ps → apart (positions x (layouts (map (struct_at img) ps))) ≡ false
+    no_apart : (ps : List ℕ) → AllHeld t ps → apart (positions x (layouts (map (struct_at img) ps))) ≡ false
     unfolding layouts positions apart struct_at
-    no-apart [] h = refl
-    no-apart (p ∷ ps) h =
-        same-apart (last (λ (r : Struct). r.name) (name_in img p) (map (struct_at img) ps)) (struct_at img p) (layouts (map (struct_at img) ps)) _ refl
-        (λ n q. no-differs n ps ((h 0 (omega arith)).at x n q) (λ j b. h (suc j) (omega arith)))
-        (no-apart ps (λ j b. h (suc j) (omega arith)))
+    no_apart [] h = refl
+    no_apart (p ∷ ps) h =
+        same_apart (last (λ (r : Struct). r.name) (name_in img p) (map (struct_at img) ps)) (struct_at img p) (layouts (map (struct_at img) ps)) _ refl
+        (λ n q. no_differs n ps ((h 0 (omega arith)).at x n q) (λ j b. h (suc j) (omega arith)))
+        (no_apart ps (λ j b. h (suc j) (omega arith)))
 
   pub agreed : (t : List ℕ) → AllHeld t (structs_in img) → (x : Name) → unsure (contract_at img) x ≡ false
   unfolding unsure contract_at
-  agreed t h x = no-apart t x (structs_in img) h
+  agreed t h x = no_apart t x (structs_in img) h

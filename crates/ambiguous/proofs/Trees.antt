@@ -84,13 +84,13 @@ module _ (f : ℕ → Stmt) (img : List ℕ) where
   stmts_more (suc k) p e h l = simp (lt-ltb _ _ l, sub-one)
 
   module _ (l e : ℕ) {a b : ℕ} (ha : a ≡ l) (hb : b ≡ e) where
-    pub else-there : a < b → else_at f img l e ≡ body_at f img l
+    pub else_there : a < b → else_at f img l e ≡ body_at f img l
     unfolding else_at
-    else-there h = let z : l < e = rw (← ha, ← hb) h in simp (lt-ltb _ _ z)
+    else_there h = let z : l < e = rw (← ha, ← hb) h in simp (lt-ltb _ _ z)
 
-    pub else-not : b ≤ a → else_at f img l e ≡ Stmts.none
+    pub else_not : b ≤ a → else_at f img l e ≡ Stmts.none
     unfolding else_at
-    else-not h = let z : e ≤ l = rw (← ha, ← hb) h in simp (le-ltb _ _ z)
+    else_not h = let z : e ≤ l = rw (← ha, ← hb) h in simp (le-ltb _ _ z)
 
 -- A Return with a value, and one without.
 module _ (img : List ℕ) (i : ℕ) {v n : ℕ} (hv : v ≡ inside img i) (hn : n ≡ after img i) (g : ℕ → Expr) (f : ℕ → Stmt) where

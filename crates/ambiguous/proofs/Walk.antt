@@ -18,9 +18,9 @@ use Rattle.rules.specs.Bytes.{pick, Name, after}
 use Rattle.rules.specs.Tables.{or_else}
 use Rattle.rules.specs.Tree.{Expr, Exprs, Inits, Stmt, Stmts, Function, Contract}
 use Rattle.rules.specs.Read.{kind_of, kInt, kIdent, kStorage, kOther, expr_as, exprs_from, inits_from, stmt_at_lem, stmts_from, body_at, function_at, contract_at, second, fifth}
-use Rattle.rules.specs.Ambiguous.{is_ambiguous_lem, inExpr, inExprs, inInits, inStmt, inStmts, in_functions, first_ambiguous_lem}
+use Rattle.rules.specs.Ambiguous.{is_ambiguous_lem, in_expr_lem, in_exprs, in_inits_lem, in_stmt_lem, in_stmts, in_functions, first_ambiguous_lem}
 use Rattle.before.specs.Old.{ambiguous_before}
-use Rattle.before.specs.Meant.{still-clear}
+use Rattle.before.specs.Meant.{still_clear}
 use Rattle.tables.specs.Listed.{functions_in}
 use Rattle.ambiguous.specs.declared.Spot.{Spot}
 use Rattle.ambiguous.specs.declared.Spot.TheVariants as spot
@@ -51,67 +51,67 @@ else_none none = refl
 
 module _ (C : Contract) (img : List ℕ) where
   module _ (f : ℕ → Expr) (k p e : ℕ) where
-    pub args-zero : k ≡ 0 → none ≡ inExprs C (exprs_from k f img p e)
-    unfolding inExprs
-    args-zero h = rw (exprs_zero f img k p e h)
+    pub args_zero : k ≡ 0 → none ≡ in_exprs C (exprs_from k f img p e)
+    unfolding in_exprs
+    args_zero h = rw (exprs_zero f img k p e h)
 
-    pub args_end : e ≤ p → none ≡ inExprs C (exprs_from k f img p e)
-    unfolding inExprs
+    pub args_end : e ≤ p → none ≡ in_exprs C (exprs_from k f img p e)
+    unfolding in_exprs
     args_end h = rw (exprs_end f img k p e h)
 
-    pub inits-none : k ≡ 0 → none ≡ inInits C (inits_from k f img p e)
-    unfolding inInits
-    inits-none h = rw (inits_zero f img k p e h)
+    pub inits_none : k ≡ 0 → none ≡ in_inits_lem C (inits_from k f img p e)
+    unfolding in_inits_lem
+    inits_none h = rw (inits_zero f img k p e h)
 
-    pub inits-over : e ≤ p → none ≡ inInits C (inits_from k f img p e)
-    unfolding inInits
-    inits-over h = rw (inits_end f img k p e h)
+    pub inits_over : e ≤ p → none ≡ in_inits_lem C (inits_from k f img p e)
+    unfolding in_inits_lem
+    inits_over h = rw (inits_end f img k p e h)
 
     module _ (h : k ≡ 0 → ⊥) (l : p < e) {a : Spot} where
-      pub args-here : {q : ℕ} → a ≡ spot.At q → spot_of a ≡ inExpr C (f p) → spot_of a ≡ inExprs C (exprs_from k f img p e)
-      unfolding inExprs
-      args-here q w = rw (exprs_more f img k p e h l) (then_first _ q w)
+      pub args_here : {q : ℕ} → a ≡ spot.At q → spot_of a ≡ in_expr_lem C (f p) → spot_of a ≡ in_exprs C (exprs_from k f img p e)
+      unfolding in_exprs
+      args_here q w = rw (exprs_more f img k p e h l) (then_first _ q w)
 
-      pub args-next : a ≡ spot.Nowhere → spot_of a ≡ inExpr C (f p) → inExprs C (exprs_from k f img p e) ≡ inExprs C (exprs_from (k - 1) f img (after img p) e)
-      unfolding inExprs spot_of or_else
-      args-next q w = rw (exprs_more f img k p e h l, ← w, q)
+      pub args_next : a ≡ spot.Nowhere → spot_of a ≡ in_expr_lem C (f p) → in_exprs C (exprs_from k f img p e) ≡ in_exprs C (exprs_from (k - 1) f img (after img p) e)
+      unfolding in_exprs spot_of or_else
+      args_next q w = rw (exprs_more f img k p e h l, ← w, q)
 
-      pub inits-here : {q : ℕ} → a ≡ spot.At q → spot_of a ≡ inExpr C (f (second img p)) → spot_of a ≡ inInits C (inits_from k f img p e)
-      unfolding inInits
-      inits-here q w = rw (inits_more f img k p e h l) (then_first _ q w)
+      pub inits_here : {q : ℕ} → a ≡ spot.At q → spot_of a ≡ in_expr_lem C (f (second img p)) → spot_of a ≡ in_inits_lem C (inits_from k f img p e)
+      unfolding in_inits_lem
+      inits_here q w = rw (inits_more f img k p e h l) (then_first _ q w)
 
-      pub inits-next : a ≡ spot.Nowhere → spot_of a ≡ inExpr C (f (second img p)) → inInits C (inits_from k f img p e) ≡ inInits C (inits_from (k - 1) f img (after img p) e)
-      unfolding inInits spot_of or_else
-      inits-next q w = rw (inits_more f img k p e h l, ← w, q)
+      pub inits_next : a ≡ spot.Nowhere → spot_of a ≡ in_expr_lem C (f (second img p)) → in_inits_lem C (inits_from k f img p e) ≡ in_inits_lem C (inits_from (k - 1) f img (after img p) e)
+      unfolding in_inits_lem spot_of or_else
+      inits_next q w = rw (inits_more f img k p e h l, ← w, q)
 
   module _ (f : ℕ → Stmt) (k p e : ℕ) where
-    pub body-zero : k ≡ 0 → none ≡ inStmts C (stmts_from k f img p e)
-    unfolding inStmts
-    body-zero h = rw (stmts_zero f img k p e h)
+    pub body_zero : k ≡ 0 → none ≡ in_stmts C (stmts_from k f img p e)
+    unfolding in_stmts
+    body_zero h = rw (stmts_zero f img k p e h)
 
-    pub body_end : e ≤ p → none ≡ inStmts C (stmts_from k f img p e)
-    unfolding inStmts
+    pub body_end : e ≤ p → none ≡ in_stmts C (stmts_from k f img p e)
+    unfolding in_stmts
     body_end h = rw (stmts_end f img k p e h)
 
     module _ (h : k ≡ 0 → ⊥) (l : p < e) {a : Spot} where
-      pub body-here : {q : ℕ} → a ≡ spot.At q → spot_of a ≡ inStmt C (f p) → spot_of a ≡ inStmts C (stmts_from k f img p e)
-      unfolding inStmts
-      body-here q w = rw (stmts_more f img k p e h l) (then_first _ q w)
+      pub body_here : {q : ℕ} → a ≡ spot.At q → spot_of a ≡ in_stmt_lem C (f p) → spot_of a ≡ in_stmts C (stmts_from k f img p e)
+      unfolding in_stmts
+      body_here q w = rw (stmts_more f img k p e h l) (then_first _ q w)
 
-      pub body-next : a ≡ spot.Nowhere → spot_of a ≡ inStmt C (f p) → inStmts C (stmts_from k f img p e) ≡ inStmts C (stmts_from (k - 1) f img (after img p) e)
-      unfolding inStmts spot_of or_else
-      body-next q w = rw (stmts_more f img k p e h l, ← w, q)
+      pub body_next : a ≡ spot.Nowhere → spot_of a ≡ in_stmt_lem C (f p) → in_stmts C (stmts_from k f img p e) ≡ in_stmts C (stmts_from (k - 1) f img (after img p) e)
+      unfolding in_stmts spot_of or_else
+      body_next q w = rw (stmts_more f img k p e h l, ← w, q)
 
 -- Expressions that hold no other.
 module _ (C : Contract) (f : ℕ → Expr) (img : List ℕ) (i : ℕ) where
-  leaf : (a b c : Bool) → none ≡ inExpr C (expr_as (pick a kInt (pick b kIdent (pick c kStorage kOther))) f img i)
-  unfolding inExpr expr_as pick
+  leaf : (a b c : Bool) → none ≡ in_expr_lem C (expr_as (pick a kInt (pick b kIdent (pick c kStorage kOther))) f img i)
+  unfolding in_expr_lem expr_as pick
   leaf true b c = refl
   leaf false true c = refl
   leaf false false true = refl
   leaf false false false = refl
 
-  pub leaf_kind : (k : ℕ) → (k ≡ 67 → ⊥) → (k ≡ 68 → ⊥) → (k ≡ 69 → ⊥) → (k ≡ 70 → ⊥) → (k ≡ 71 → ⊥) → none ≡ inExpr C (expr_as (kind_of k) f img i)
+  pub leaf_kind : (k : ℕ) → (k ≡ 67 → ⊥) → (k ≡ 68 → ⊥) → (k ≡ 69 → ⊥) → (k ≡ 70 → ⊥) → (k ≡ 71 → ⊥) → none ≡ in_expr_lem C (expr_as (kind_of k) f img i)
   unfolding kind_of pick
   leaf_kind k a b c d e = simp (ne_eqb k 67 a, ne_eqb k 68 b, ne_eqb k 69 c, ne_eqb k 70 d, ne_eqb k 71 e) (leaf (eqb k 64) (eqb k 65) (eqb k 66))
 
@@ -125,74 +125,74 @@ module _ (img : List ℕ) where
   functions_all = refl
 
   module _ (i : ℕ) where
-    pub functions-over : length (functions_in img) ≤ i → none ≡ functions_from img i
+    pub functions_over : length (functions_in img) ≤ i → none ≡ functions_from img i
     unfolding functions_from in_functions
-    functions-over h = rw (drop_of_length-le (functions_in img) h)
+    functions_over h = rw (drop_of_length-le (functions_in img) h)
 
     module _ (h : i < length (functions_in img)) {a : Spot} where
-      pub functions-here : {q : ℕ} → a ≡ spot.At q → spot_of a ≡ inStmts (contract_at img) (body_at (stmt_at_lem 64 img) img (fifth img (get_or (functions_in img) i 0))) → spot_of a ≡ functions_from img i
+      pub functions_here : {q : ℕ} → a ≡ spot.At q → spot_of a ≡ in_stmts (contract_at img) (body_at (stmt_at_lem 64 img) img (fifth img (get_or (functions_in img) i 0))) → spot_of a ≡ functions_from img i
       unfolding functions_from in_functions function_at
-      functions-here q w = rw (drop-cons (functions_in img) i 0 h) (then_first _ q w)
+      functions_here q w = rw (drop-cons (functions_in img) i 0 h) (then_first _ q w)
 
-      pub functions-next : a ≡ spot.Nowhere → spot_of a ≡ inStmts (contract_at img) (body_at (stmt_at_lem 64 img) img (fifth img (get_or (functions_in img) i 0))) → functions_from img i ≡ functions_from img (i + 1)
+      pub functions_next : a ≡ spot.Nowhere → spot_of a ≡ in_stmts (contract_at img) (body_at (stmt_at_lem 64 img) img (fifth img (get_or (functions_in img) i 0))) → functions_from img i ≡ functions_from img (i + 1)
       unfolding functions_from in_functions function_at spot_of or_else
-      functions-next q w = rw (drop-cons (functions_in img) i 0 h, ← w, q, add-one)
+      functions_next q w = rw (drop-cons (functions_in img) i 0 h, ← w, q, add-one)
 
 -- Where no field is ambiguous there is no answer.
 module _ (C : Contract) (clear : (x : Name) → unsure C x ≡ false) where
   -- 02: P2: nor then is an access.
   sure : (p : ℕ) (x : Name) → is_ambiguous_lem C p x ≡ false
   unfolding unsure
-  sure p x = still-clear C p x (ambiguous_before C p x ∙ clear x)
+  sure p x = still_clear C p x (ambiguous_before C p x ∙ clear x)
 
   mutual
-    unfolding inExpr inExprs inInits or_else pick
+    unfolding in_expr_lem in_exprs in_inits_lem or_else pick
 
-    no-expr : (e : Expr) → inExpr C e ≡ none
-    no-expr (Expr.no-expr p) = refl
-    no-expr (Expr.int p v) = refl
-    no-expr (Expr.ident p x) = refl
-    no-expr (Expr.storage-read p x) = refl
-    no-expr (Expr.mapping-read p x e) = no-expr e
-    no-expr (Expr.field-access p e x) = rw (sure p x, no-expr e)
-    no-expr (Expr.literal p x is) = no-inits is
-    no-expr (Expr.binary p a o b) = rw (no-expr a, no-expr b)
-    no-expr (Expr.call p f es) = no-exprs es
+    no_expr : (e : Expr) → in_expr_lem C e ≡ none
+    no_expr (Expr.no_expr p) = refl
+    no_expr (Expr.int p v) = refl
+    no_expr (Expr.ident p x) = refl
+    no_expr (Expr.storage-read p x) = refl
+    no_expr (Expr.mapping-read p x e) = no_expr e
+    no_expr (Expr.field-access p e x) = rw (sure p x, no_expr e)
+    no_expr (Expr.literal p x is) = no_inits is
+    no_expr (Expr.binary p a o b) = rw (no_expr a, no_expr b)
+    no_expr (Expr.call p f es) = no_exprs es
 
-    no-exprs : (es : Exprs) → inExprs C es ≡ none
-    no-exprs Exprs.none = refl
-    no-exprs (Exprs.more e es) = rw (no-expr e, no-exprs es)
+    no_exprs : (es : Exprs) → in_exprs C es ≡ none
+    no_exprs Exprs.none = refl
+    no_exprs (Exprs.more e es) = rw (no_expr e, no_exprs es)
 
-    no-inits : (is : Inits) → inInits C is ≡ none
-    no-inits Inits.no-init = refl
-    no-inits (Inits.init p x e is) = rw (no-expr e, no-inits is)
+    no_inits : (is : Inits) → in_inits_lem C is ≡ none
+    no_inits Inits.no-init = refl
+    no_inits (Inits.init p x e is) = rw (no_expr e, no_inits is)
 
   mutual
-    unfolding inStmt inStmts or_else
+    unfolding in_stmt_lem in_stmts or_else
 
-    no-stmt : (s : Stmt) → inStmt C s ≡ none
-    no-stmt (Stmt.no-stmt p) = refl
-    no-stmt (Stmt.let-in p x e) = no-expr e
-    no-stmt (Stmt.constrain p e) = no-expr e
-    no-stmt (Stmt.assign p x e) = no-expr e
-    no-stmt (Stmt.storage-write p x e) = no-expr e
-    no-stmt (Stmt.mapping-write p x e f) = rw (no-expr e, no-expr f)
-    no-stmt (Stmt.if-else p c t e) = rw (no-expr c, no-stmts t, no-stmts e)
-    no-stmt (Stmt.while p c b) = rw (no-expr c, no-stmts b)
-    no-stmt (Stmt.for p x e f b) = rw (no-expr e, no-expr f, no-stmts b)
-    no-stmt (Stmt.return p e) = no-expr e
-    no-stmt (Stmt.return-none p) = refl
-    no-stmt (Stmt.emits p x es) = no-exprs es
-    no-stmt (Stmt.just p e) = no-expr e
+    no_stmt : (s : Stmt) → in_stmt_lem C s ≡ none
+    no_stmt (Stmt.no_stmt p) = refl
+    no_stmt (Stmt.let-in p x e) = no_expr e
+    no_stmt (Stmt.constrain p e) = no_expr e
+    no_stmt (Stmt.assign p x e) = no_expr e
+    no_stmt (Stmt.storage-write p x e) = no_expr e
+    no_stmt (Stmt.mapping-write p x e f) = rw (no_expr e, no_expr f)
+    no_stmt (Stmt.if-else p c t e) = rw (no_expr c, no_stmts t, no_stmts e)
+    no_stmt (Stmt.while p c b) = rw (no_expr c, no_stmts b)
+    no_stmt (Stmt.for p x e f b) = rw (no_expr e, no_expr f, no_stmts b)
+    no_stmt (Stmt.return p e) = no_expr e
+    no_stmt (Stmt.return-none p) = refl
+    no_stmt (Stmt.emits p x es) = no_exprs es
+    no_stmt (Stmt.just p e) = no_expr e
 
-    no-stmts : (ss : Stmts) → inStmts C ss ≡ none
-    no-stmts Stmts.none = refl
-    no-stmts (Stmts.more s ss) = rw (no-stmt s, no-stmts ss)
+    no_stmts : (ss : Stmts) → in_stmts C ss ≡ none
+    no_stmts Stmts.none = refl
+    no_stmts (Stmts.more s ss) = rw (no_stmt s, no_stmts ss)
 
   no_functions : (fs : List Function) → in_functions C fs ≡ none
   unfolding in_functions or_else
   no_functions [] = refl
-  no_functions (f ∷ fs) = rw (no-stmts f.body, no_functions fs)
+  no_functions (f ∷ fs) = rw (no_stmts f.body, no_functions fs)
 
   pub no_ambiguous : none ≡ first_ambiguous_lem C
   unfolding first_ambiguous_lem

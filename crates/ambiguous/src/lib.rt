@@ -5,7 +5,7 @@ ghost use Rattle.std.specs.Prelude.{◌≡◌};
 ghost use Rattle.rules.specs.Bytes.{inside, after};
 ghost use Rattle.rules.specs.Tables.{or_else};
 ghost use Rattle.rules.specs.Read.{expr_at, expr_as, exprs_from, inits_from, kAccess, stmt_at_lem, stmt_as, stmt_kind_of, body_at, sIf, sWhile, sFor, sReturn, contract_at};
-ghost use Rattle.rules.specs.Ambiguous.{inExpr, inExprs, inInits, inStmt, inStmts, first_ambiguous_lem};
+ghost use Rattle.rules.specs.Ambiguous.{in_expr_lem, in_exprs, in_inits_lem, in_stmt_lem, in_stmts, first_ambiguous_lem};
 ghost use Rattle.notes.specs.Notes.{Known};
 ghost use Rattle.ambiguous.specs.Spots.{spot_of};
 
@@ -30,7 +30,7 @@ fn second(img: &[u8], at: usize) -> usize
 #[cycle(in_access_in_args_in_expr_in_inits_in_two)]
 fn in_access(img: &[u8], tables: &[usize], notes: &[u8; notes::SIZE], d: usize, at: usize) -> Spot
     requires { Known img.now tables.now notes.now }
-    ensures { spot_of result ≡ inExpr (contract_at img.now) (expr_as kAccess (expr_at d img.now) img.now at) }
+    ensures { spot_of result ≡ in_expr_lem (contract_at img.now) (expr_as kAccess (expr_at d img.now) img.now at) }
 {
     let base = records::body(img, at);
     if apart::is_ambiguous_at(img, tables, notes, at, records::past(img, base)) {
@@ -50,7 +50,7 @@ fn in_two(
     b: usize,
 ) -> Spot
     requires { Known img.now tables.now notes.now }
-    ensures { spot_of result ≡ or_else (inExpr (contract_at img.now) (expr_at d img.now a)) (inExpr (contract_at img.now) (expr_at d img.now b)) }
+    ensures { spot_of result ≡ or_else (in_expr_lem (contract_at img.now) (expr_at d img.now a)) (in_expr_lem (contract_at img.now) (expr_at d img.now b)) }
 {
     let first = in_expr(img, tables, notes, d, a);
     match first {
@@ -70,7 +70,7 @@ fn in_args(
     most: usize,
 ) -> Spot
     requires { Known img.now tables.now notes.now }
-    ensures { spot_of result ≡ inExprs (contract_at img.now) (exprs_from most (expr_at d img.now) img.now (inside img.now l) (after img.now l)) }
+    ensures { spot_of result ≡ in_exprs (contract_at img.now) (exprs_from most (expr_at d img.now) img.now (inside img.now l) (after img.now l)) }
 {
     let end = records::past(img, l);
     let mut p = records::body(img, l);
@@ -94,7 +94,7 @@ fn in_args(
 #[cycle(in_access_in_args_in_expr_in_inits_in_two)]
 fn in_inits(img: &[u8], tables: &[usize], notes: &[u8; notes::SIZE], d: usize, l: usize) -> Spot
     requires { Known img.now tables.now notes.now }
-    ensures { spot_of result ≡ inInits (contract_at img.now) (inits_from 64 (expr_at d img.now) img.now (inside img.now l) (after img.now l)) }
+    ensures { spot_of result ≡ in_inits_lem (contract_at img.now) (inits_from 64 (expr_at d img.now) img.now (inside img.now l) (after img.now l)) }
 {
     let end = records::past(img, l);
     let mut p = records::body(img, l);
@@ -118,7 +118,7 @@ fn in_inits(img: &[u8], tables: &[usize], notes: &[u8; notes::SIZE], d: usize, l
 #[cycle(in_access_in_args_in_expr_in_inits_in_two)]
 fn in_expr(img: &[u8], tables: &[usize], notes: &[u8; notes::SIZE], d: usize, at: usize) -> Spot
     requires { Known img.now tables.now notes.now }
-    ensures { spot_of result ≡ inExpr (contract_at img.now) (expr_at d img.now at) }
+    ensures { spot_of result ≡ in_expr_lem (contract_at img.now) (expr_at d img.now at) }
 {
     if d == 0 {
         return Spot::Nowhere;
@@ -144,7 +144,7 @@ fn in_expr(img: &[u8], tables: &[usize], notes: &[u8; notes::SIZE], d: usize, at
 // A Return's value, if it has one.
 fn in_return(img: &[u8], tables: &[usize], notes: &[u8; notes::SIZE], d: usize, at: usize) -> Spot
     requires { Known img.now tables.now notes.now }
-    ensures { spot_of result ≡ inStmt (contract_at img.now) (stmt_as sReturn (expr_at d img.now) (stmt_at_lem d img.now) img.now at) }
+    ensures { spot_of result ≡ in_stmt_lem (contract_at img.now) (stmt_as sReturn (expr_at d img.now) (stmt_at_lem d img.now) img.now at) }
 {
     let value = records::body(img, at);
     if value < records::past(img, at) {
@@ -164,7 +164,7 @@ fn in_simple(
     k: u64,
 ) -> Spot
     requires { Known img.now tables.now notes.now × ((k ≡ 37 → ⊥) × ((k ≡ 38 → ⊥) × (k ≡ 39 → ⊥))) }
-    ensures { spot_of result ≡ inStmt (contract_at img.now) (stmt_as (stmt_kind_of k) (expr_at d img.now) (stmt_at_lem d img.now) img.now at) }
+    ensures { spot_of result ≡ in_stmt_lem (contract_at img.now) (stmt_as (stmt_kind_of k) (expr_at d img.now) (stmt_at_lem d img.now) img.now at) }
 {
     let first = records::body(img, at);
     let next = records::past(img, first);
@@ -185,7 +185,7 @@ fn in_simple(
 #[cycle(in_body_in_for_in_if_in_stmt_in_while_then_body)]
 fn in_body(img: &[u8], tables: &[usize], notes: &[u8; notes::SIZE], d: usize, l: usize) -> Spot
     requires { Known img.now tables.now notes.now }
-    ensures { spot_of result ≡ inStmts (contract_at img.now) (body_at (stmt_at_lem d img.now) img.now l) }
+    ensures { spot_of result ≡ in_stmts (contract_at img.now) (body_at (stmt_at_lem d img.now) img.now l) }
 {
     let end = records::past(img, l);
     let mut p = records::body(img, l);
@@ -216,7 +216,7 @@ fn then_body(
     l: usize,
 ) -> Spot
     requires { Known img.now tables.now notes.now }
-    ensures { spot_of result ≡ or_else (spot_of first) (inStmts (contract_at img.now) (body_at (stmt_at_lem d img.now) img.now l)) }
+    ensures { spot_of result ≡ or_else (spot_of first) (in_stmts (contract_at img.now) (body_at (stmt_at_lem d img.now) img.now l)) }
 {
     match first {
         Spot::At(_) => first,
@@ -228,7 +228,7 @@ fn then_body(
 #[cycle(in_body_in_for_in_if_in_stmt_in_while_then_body)]
 fn in_if(img: &[u8], tables: &[usize], notes: &[u8; notes::SIZE], d: usize, at: usize) -> Spot
     requires { Known img.now tables.now notes.now }
-    ensures { spot_of result ≡ inStmt (contract_at img.now) (stmt_as sIf (expr_at d img.now) (stmt_at_lem d img.now) img.now at) }
+    ensures { spot_of result ≡ in_stmt_lem (contract_at img.now) (stmt_as sIf (expr_at d img.now) (stmt_at_lem d img.now) img.now at) }
 {
     let test = records::body(img, at);
     let then = records::past(img, test);
@@ -245,7 +245,7 @@ fn in_if(img: &[u8], tables: &[usize], notes: &[u8; notes::SIZE], d: usize, at: 
 #[cycle(in_body_in_for_in_if_in_stmt_in_while_then_body)]
 fn in_while(img: &[u8], tables: &[usize], notes: &[u8; notes::SIZE], d: usize, at: usize) -> Spot
     requires { Known img.now tables.now notes.now }
-    ensures { spot_of result ≡ inStmt (contract_at img.now) (stmt_as sWhile (expr_at d img.now) (stmt_at_lem d img.now) img.now at) }
+    ensures { spot_of result ≡ in_stmt_lem (contract_at img.now) (stmt_as sWhile (expr_at d img.now) (stmt_at_lem d img.now) img.now at) }
 {
     let test = records::body(img, at);
     let t = in_expr(img, tables, notes, d, test);
@@ -255,7 +255,7 @@ fn in_while(img: &[u8], tables: &[usize], notes: &[u8; notes::SIZE], d: usize, a
 #[cycle(in_body_in_for_in_if_in_stmt_in_while_then_body)]
 fn in_for(img: &[u8], tables: &[usize], notes: &[u8; notes::SIZE], d: usize, at: usize) -> Spot
     requires { Known img.now tables.now notes.now }
-    ensures { spot_of result ≡ inStmt (contract_at img.now) (stmt_as sFor (expr_at d img.now) (stmt_at_lem d img.now) img.now at) }
+    ensures { spot_of result ≡ in_stmt_lem (contract_at img.now) (stmt_as sFor (expr_at d img.now) (stmt_at_lem d img.now) img.now at) }
 {
     let from = second(img, at);
     let to = records::past(img, from);
@@ -267,7 +267,7 @@ fn in_for(img: &[u8], tables: &[usize], notes: &[u8; notes::SIZE], d: usize, at:
 #[cycle(in_body_in_for_in_if_in_stmt_in_while_then_body)]
 fn in_stmt(img: &[u8], tables: &[usize], notes: &[u8; notes::SIZE], d: usize, at: usize) -> Spot
     requires { Known img.now tables.now notes.now }
-    ensures { spot_of result ≡ inStmt (contract_at img.now) (stmt_at_lem d img.now at) }
+    ensures { spot_of result ≡ in_stmt_lem (contract_at img.now) (stmt_at_lem d img.now at) }
 {
     if d == 0 {
         return Spot::Nowhere;

@@ -14,7 +14,7 @@ use Rattle.rules.specs.Link.{Program, functions, with_main, generate}
 use Rattle.rules.specs.Build.{clear, analysed, judged, program}
 use Rattle.before.specs.Old.{first_before, generate_before, judged_before, program_before}
 use Rattle.before.specs.Meant.{bad_ok}
-use Rattle.before.specs.Same.{in_turn, functions_clear, functions-same}
+use Rattle.before.specs.Same.{in_turn, functions_clear, functions_same}
 
 -- A contract with no ambiguous access in the old sense: no 30,
 pub none_now : (C : Contract) → first_before C ≡ none → first_ambiguous_lem C ≡ none
@@ -24,7 +24,7 @@ none_now C h = functions_clear C C.functions h
 -- and generation gives what it gave, whatever the rules.
 pub generated_same : (R : Rules) (C : Contract) → first_before C ≡ none → generate R C ≡ generate_before R C
 unfolding first_before generate generate_before
-generated_same R C h = ap (with_main (last (λ (f : Function). f.name) main C.functions)) (in_turn (functions-same C R C.functions h 3) (λ b. refl))
+generated_same R C h = ap (with_main (last (λ (f : Function). f.name) main C.functions)) (in_turn (functions_same C R C.functions h 3) (λ b. refl))
 
 -- Behind analysis.
 behind : (R : Rules) (C : Contract) (o : Option ℕ) → first_before C ≡ o → ((q : ℕ) → ((clear o >>= λ u. ok C) >>= generate_before R) ≡ bad (Refusal.ambiguous q) → ⊥)

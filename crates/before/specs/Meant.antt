@@ -14,7 +14,7 @@ use Rattle.rules.specs.Types.{Typ, Env, with_name}
 use Rattle.rules.specs.Refusal.{Refusal, Res, ok, bad, known}
 use Rattle.rules.specs.Analyse as analysis
 use Rattle.rules.specs.Analyse.{field_name}
-use Rattle.rules.specs.Meant.{Access, behind, ofExpr, ofExprs, ofInits, ofStmt, ofStmts, of_function, of_functions, accesses, base_at}
+use Rattle.rules.specs.Meant.{Access, behind, of_expr, of_exprs, of_inits, of_stmt, of_stmts, of_function, of_functions, accesses, base_at}
 use Rattle.rules.specs.Layout.{layouts, with_position, positions, first_of, declared, among, choices, offset}
 use Rattle.rules.specs.Ambiguous.{differs, apart, is_ambiguous_lem}
 use Rattle.records.specs.Names.{name_eq, never}
@@ -56,57 +56,57 @@ module _ (C : Contract) where
   accepted p Typ.unknown x u h d e n = some_none d (sym e)
 
   mutual
-    unfolding ofExpr ofExprs ofInits Has
+    unfolding of_expr of_exprs of_inits Has
 
-    expr-has : (e : Expr) (Γ : Env) → Each Has (ofExpr C e Γ)
-    expr-has (Expr.no-expr p) Γ = tt
-    expr-has (Expr.int p v) Γ = tt
-    expr-has (Expr.ident p x) Γ = tt
-    expr-has (Expr.storage-read p x) Γ = tt
-    expr-has (Expr.mapping-read p x e) Γ = expr-has e Γ
-    expr-has (Expr.field-access p e x) Γ = each_append Has (ofExpr C e Γ) _ (expr-has e Γ)
+    expr_has : (e : Expr) (Γ : Env) → Each Has (of_expr C e Γ)
+    expr_has (Expr.no-expr p) Γ = tt
+    expr_has (Expr.int p v) Γ = tt
+    expr_has (Expr.ident p x) Γ = tt
+    expr_has (Expr.storage-read p x) Γ = tt
+    expr_has (Expr.mapping-read p x e) Γ = expr_has e Γ
+    expr_has (Expr.field-access p e x) Γ = each_append Has (of_expr C e Γ) _ (expr_has e Γ)
         (each_behind Has (analysis.expr C e Γ) _ (λ t m. each_behind Has (analysis.access C p t x) _ (λ u h. (accepted p t x u h, tt))))
-    expr-has (Expr.literal p x is) Γ = inits-have is Γ
-    expr-has (Expr.binary p a o b) Γ = each_append Has (ofExpr C a Γ) _ (expr-has a Γ) (expr-has b Γ)
-    expr-has (Expr.call p f es) Γ = exprs-have es Γ
+    expr_has (Expr.literal p x is) Γ = inits_have is Γ
+    expr_has (Expr.binary p a o b) Γ = each_append Has (of_expr C a Γ) _ (expr_has a Γ) (expr_has b Γ)
+    expr_has (Expr.call p f es) Γ = exprs_have es Γ
 
-    exprs-have : (es : Exprs) (Γ : Env) → Each Has (ofExprs C es Γ)
-    exprs-have Exprs.none Γ = tt
-    exprs-have (Exprs.more e es) Γ = each_append Has (ofExpr C e Γ) _ (expr-has e Γ) (exprs-have es Γ)
+    exprs_have : (es : Exprs) (Γ : Env) → Each Has (of_exprs C es Γ)
+    exprs_have Exprs.none Γ = tt
+    exprs_have (Exprs.more e es) Γ = each_append Has (of_expr C e Γ) _ (expr_has e Γ) (exprs_have es Γ)
 
-    inits-have : (is : Inits) (Γ : Env) → Each Has (ofInits C is Γ)
-    inits-have Inits.no-init Γ = tt
-    inits-have (Inits.init p x e is) Γ = each_append Has (ofExpr C e Γ) _ (expr-has e Γ) (inits-have is Γ)
+    inits_have : (is : Inits) (Γ : Env) → Each Has (of_inits C is Γ)
+    inits_have Inits.no-init Γ = tt
+    inits_have (Inits.init p x e is) Γ = each_append Has (of_expr C e Γ) _ (expr_has e Γ) (inits_have is Γ)
 
   module _ (ret : Typ) where
     mutual
-      unfolding ofStmt ofStmts
+      unfolding of_stmt of_stmts
 
-      stmt-has : (s : Stmt) (Γ : Env) → Each Has (ofStmt C ret s Γ)
-      stmt-has (Stmt.no-stmt p) Γ = tt
-      stmt-has (Stmt.let-in p x e) Γ = expr-has e Γ
-      stmt-has (Stmt.constrain p e) Γ = expr-has e Γ
-      stmt-has (Stmt.assign p x e) Γ = expr-has e Γ
-      stmt-has (Stmt.storage-write p x e) Γ = expr-has e Γ
-      stmt-has (Stmt.mapping-write p x e f) Γ = each_append Has (ofExpr C e Γ) _ (expr-has e Γ) (expr-has f Γ)
-      stmt-has (Stmt.if-else p c t e) Γ = each_append Has (ofExpr C c Γ) _ (expr-has c Γ)
-          (each_append Has (ofStmts C ret t Γ) _ (stmts-have t Γ) (each_behind Has (analysis.stmts C ret t Γ) _ (λ Δ m. stmts-have e Δ)))
-      stmt-has (Stmt.while p c b) Γ = each_append Has (ofExpr C c Γ) _ (expr-has c Γ) (stmts-have b Γ)
-      stmt-has (Stmt.for p x e f b) Γ = each_append Has (ofExpr C e Γ) _ (expr-has e Γ)
-          (each_append Has (ofExpr C f Γ) _ (expr-has f Γ) (stmts-have b (with_name x Typ.u64 Γ)))
-      stmt-has (Stmt.return p e) Γ = expr-has e Γ
-      stmt-has (Stmt.return-none p) Γ = tt
-      stmt-has (Stmt.emits p x es) Γ = exprs-have es Γ
-      stmt-has (Stmt.just p e) Γ = expr-has e Γ
+      stmt_has : (s : Stmt) (Γ : Env) → Each Has (of_stmt C ret s Γ)
+      stmt_has (Stmt.no-stmt p) Γ = tt
+      stmt_has (Stmt.let-in p x e) Γ = expr_has e Γ
+      stmt_has (Stmt.constrain p e) Γ = expr_has e Γ
+      stmt_has (Stmt.assign p x e) Γ = expr_has e Γ
+      stmt_has (Stmt.storage-write p x e) Γ = expr_has e Γ
+      stmt_has (Stmt.mapping-write p x e f) Γ = each_append Has (of_expr C e Γ) _ (expr_has e Γ) (expr_has f Γ)
+      stmt_has (Stmt.if-else p c t e) Γ = each_append Has (of_expr C c Γ) _ (expr_has c Γ)
+          (each_append Has (of_stmts C ret t Γ) _ (stmts_have t Γ) (each_behind Has (analysis.stmts C ret t Γ) _ (λ Δ m. stmts_have e Δ)))
+      stmt_has (Stmt.while p c b) Γ = each_append Has (of_expr C c Γ) _ (expr_has c Γ) (stmts_have b Γ)
+      stmt_has (Stmt.for p x e f b) Γ = each_append Has (of_expr C e Γ) _ (expr_has e Γ)
+          (each_append Has (of_expr C f Γ) _ (expr_has f Γ) (stmts_have b (with_name x Typ.u64 Γ)))
+      stmt_has (Stmt.return p e) Γ = expr_has e Γ
+      stmt_has (Stmt.return-none p) Γ = tt
+      stmt_has (Stmt.emits p x es) Γ = exprs_have es Γ
+      stmt_has (Stmt.just p e) Γ = expr_has e Γ
 
-      stmts-have : (ss : Stmts) (Γ : Env) → Each Has (ofStmts C ret ss Γ)
-      stmts-have Stmts.none Γ = tt
-      stmts-have (Stmts.more s ss) Γ = each_append Has (ofStmt C ret s Γ) _ (stmt-has s Γ) (each_behind Has (analysis.stmt C ret s Γ) _ (λ Δ m. stmts-have ss Δ))
+      stmts_have : (ss : Stmts) (Γ : Env) → Each Has (of_stmts C ret ss Γ)
+      stmts_have Stmts.none Γ = tt
+      stmts_have (Stmts.more s ss) Γ = each_append Has (of_stmt C ret s Γ) _ (stmt_has s Γ) (each_behind Has (analysis.stmt C ret s Γ) _ (λ Δ m. stmts_have ss Δ))
 
   functions_have : (fs : List Function) → Each Has (of_functions C fs)
   unfolding of_function of_functions
   functions_have [] = tt
-  functions_have (f ∷ fs) = each_append Has (ofStmts C _ f.body _) _ (stmts-have _ f.body _) (functions_have fs)
+  functions_have (f ∷ fs) = each_append Has (of_stmts C _ f.body _) _ (stmts_have _ f.body _) (functions_have fs)
 
   -- So of the one that is found by its place and field.
   found_has : (p : ℕ) (x : Name) (l : List Access) → Each Has l → (d : Struct) → declared C (base_at p x l) ≡ some d → first_index field_name 0 x d.fields ≡ none → ⊥
@@ -156,11 +156,11 @@ module _ (C : Contract) where
     both = settled (declared C (base_at p x (accesses C))) (stands (base_at p x (accesses C))) (meant_has p x)
 
     -- The offset is the old one,
-    pub offset-same : offset C p x ≡ offset (unanalysed C) p x
+    pub offset_same : offset C p x ≡ offset (unanalysed C) p x
     unfolding offset all
-    offset-same = ap (λ k. k * 8) both.0 ∙ sym (offset_before C p x)
+    offset_same = ap (λ k. k * 8) both.0 ∙ sym (offset_before C p x)
 
     -- and there is no 30.
-    pub still-clear : is_ambiguous_lem C p x ≡ false
+    pub still_clear : is_ambiguous_lem C p x ≡ false
     unfolding is_ambiguous_lem
-    still-clear = both.1
+    still_clear = both.1

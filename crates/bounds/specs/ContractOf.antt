@@ -11,7 +11,7 @@ use Rattle.rules.specs.Grammar.{classes, class_of, records, parts_of, part_of, d
 use Rattle.rules.specs.Check.{counts, vars_in_lem, start_of, record_of, check_of}
 use Rattle.rules.specs.Tree.{Field, Struct, Function, Contract}
 use Rattle.rules.specs.Types.{Typ, Env}
-use Rattle.rules.specs.Meant.{ofStmts, of_function, of_functions, accesses}
+use Rattle.rules.specs.Meant.{of_stmts, of_function, of_functions, accesses}
 use Rattle.rules.specs.Tables.{mapped, nth}
 use Rattle.rules.specs.Read.{second, third, fourth, fifth, places_from, places_in, field_at, fields_at, struct_at, function_at, contract_at}
 use Rattle.rules.specs.Joined.{whole}
@@ -149,7 +149,7 @@ record GoodFunction (img : List ℕ) (p e : ℕ) (f : Function) : Type 0 where
   small : p + 6 * nodes_function f ≤ e
   whole : WholeFunction img f
   names : length f.params + vars-stmts f.body ≤ 512
-  marks : (C : Contract) (ret : Typ) (Γ : Env) → Sparse img p e (ofStmts C ret f.body Γ)
+  marks : (C : Contract) (ret : Typ) (Γ : Env) → Sparse img p e (of_stmts C ret f.body Γ)
 
 -- The return type, if there is one.
 opt_first : (img ps : List ℕ) → Each (λ p. Short (name_at img p)) ps → Opt Short (mapped (name_at img) (nth 0 ps))

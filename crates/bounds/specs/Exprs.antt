@@ -13,11 +13,11 @@ use Rattle.rules.specs.Check.{vars_in_lem, start_of, record_of}
 use Rattle.rules.specs.Tree.{Expr, Exprs, Inits, Contract}
 use Rattle.rules.specs.Types.{Env}
 use Rattle.rules.specs.Analyse as analysis
-use Rattle.rules.specs.Meant.{ofExpr, ofExprs, ofInits}
+use Rattle.rules.specs.Meant.{of_expr, of_exprs, of_inits}
 use Rattle.rules.specs.Read.{when, second, third, name_in, kind_of, exprs_from, inits_from, expr_as, expr_at}
 use Rattle.bounds.specs.Sizes.{nodes, nodes-exprs, nodes-inits}
 use Rattle.bounds.specs.Sound.{Run, no_more, one_more, Stands, none_left, stands}
-use Rattle.bounds.specs.Whole.{Named, Complete, Whole, Whole-exprs, Whole-inits}
+use Rattle.bounds.specs.Whole.{Named, Complete, Whole, WholeExprs, WholeInits}
 use Rattle.bounds.specs.Sparse.{Sparse, sparse_none, sparse_in, sparse_then, sparse_access}
 use Rattle.bounds.specs.Runs.{Part, part_due, no_part, vars_grow, name_part, op_part, of_kind, run_reads}
 
@@ -27,21 +27,21 @@ module _ (img : List ℕ) where
     pub small : p + 6 * nodes x ≤ e
     pub whole : Whole img x
     pub count : v ≤ m
-    pub marks : (C : Contract) (Γ : Env) → Sparse img p e (ofExpr C x Γ)
+    pub marks : (C : Contract) (Γ : Env) → Sparse img p e (of_expr C x Γ)
 
   -- Of several.
   pub record Goods (p e v m : ℕ) (xs : Exprs) : Type 0 where
     pub small : p + 6 * nodes-exprs xs ≤ e
-    pub whole : Whole-exprs img xs
+    pub whole : WholeExprs img xs
     pub count : v ≤ m
-    pub marks : (C : Contract) (Γ : Env) → Sparse img p e (ofExprs C xs Γ)
+    pub marks : (C : Contract) (Γ : Env) → Sparse img p e (of_exprs C xs Γ)
 
   -- Of Inits.
   pub record GoodInits (p e v m : ℕ) (is : Inits) : Type 0 where
     pub small : p + 6 * nodes-inits is ≤ e
-    pub whole : Whole-inits img is
+    pub whole : WholeInits img is
     pub count : v ≤ m
-    pub marks : (C : Contract) (Γ : Env) → Sparse img p e (ofInits C is Γ)
+    pub marks : (C : Contract) (Γ : Env) → Sparse img p e (of_inits C is Γ)
 
   -- With l levels left: an expression, a List of them, an Init, a List of those. The reader goes no less deep than the check.
   pub record Level (l : ℕ) : Type 0 where
@@ -82,7 +82,7 @@ inits_more k f img p e h =
 exprs_run : (l : ℕ) (img : List ℕ) (D : ℕ) → l ≤ D → Level img l → (end d fuel i p v m : ℕ) → end ≤ length img
     → (class_of (class_of d).item).low ≡ 64 → (class_of (class_of d).item).high ≡ 71 → (class_of (class_of d).item).most ≤ fuel + i
     → Run l img end d 2 i p v m → Goods img p end v m (exprs_from fuel (expr_at D img) img p end)
-unfolding due_at pick nodes-exprs Whole-exprs ofExprs
+unfolding due_at pick nodes-exprs WholeExprs of_exprs
 exprs_run l img D g L end d fuel i p v m h lo hi b (no_more e n c) =
     subst (Goods img p end v m) (sym (exprs_end fuel (expr_at D img) img p end e)) (record { small = omega arith; whole = tt; count = omega arith; marks = λ C Γ. sparse_none img p end })
 exprs_run zero img D g L end d zero i p v m h lo hi b (one_more n s z o e r) = none_left img p end _ i v (after img p) n e
@@ -100,7 +100,7 @@ exprs_run l img D g L end d (suc fuel) i p v m h lo hi b (one_more n s z o e r) 
 -- The Inits of a List.
 inits_run : (l : ℕ) (img : List ℕ) (D : ℕ) → l ≤ D → Level img l → (end fuel i p v m : ℕ) → end ≤ length img → 64 ≤ fuel + i
     → Run l img end due.Inits 2 i p v m → GoodInits img p end v m (inits_from fuel (expr_at D img) img p end)
-unfolding due_at pick class_of classes nodes-inits Whole-inits ofInits
+unfolding due_at pick class_of classes nodes-inits WholeInits of_inits
 inits_run l img D g L end fuel i p v m h b (no_more e n c) =
     subst (GoodInits img p end v m) (sym (inits_end fuel (expr_at D img) img p end e)) (record { small = omega arith; whole = tt; count = omega arith; marks = λ C Γ. sparse_none img p end })
 inits_run zero img D g L end zero i p v m h b (one_more n s z o e r) = none_left img p end _ i v (after img p) n e
@@ -200,7 +200,7 @@ module _ (l : ℕ) (img : List ℕ) (L : Level img l) where
   -- An expression, by its kind.
   module _ (D : ℕ) (g : l ≤ D) (at end d i v m : ℕ) (h : end ≤ length img) (w : Stands l img at end d i v m) where
     by_kind : (k : ℕ) → kind_at img at ≡ k → Eight k → Good img at (after img at) v m (expr_as (kind_of k) (expr_at D img) img at)
-    unfolding kind_of expr_as pick start_of class_of classes due_at part_of parts_of expressions nodes Whole ofExpr
+    unfolding kind_of expr_as pick start_of class_of classes due_at part_of parts_of expressions nodes Whole of_expr
     by_kind k e e_int =
         let r = of_kind l img at end d i v m 64 e w in
         let z = no_part l img (after img at) d 64 0 (after img at) (vars_in_lem d 64 v) m refl r in
@@ -234,7 +234,7 @@ module _ (l : ℕ) (img : List ℕ) (L : Level img l) where
           small = omega (arith, w.payload, t.small, b.within);
           whole = (omega (arith, w.own, f), t.whole, short);
           count = omega (arith, y, t.count, z.1, vars_grow d 68 v refl);
-          marks = λ C Γ. sparse_access img at (after img at) (ofExpr C (expr_at D img (inside img at)) Γ) (analysis.expr C (expr_at D img (inside img at)) Γ) (λ t. analysis.access C at t (name_at img (second img at)))
+          marks = λ C Γ. sparse_access img at (after img at) (of_expr C (expr_at D img (inside img at)) Γ) (analysis.expr C (expr_at D img (inside img at)) Γ) (λ t. analysis.access C at t (name_at img (second img at)))
               (λ t. t) w.own (sparse_in (omega (arith, w.payload)) b.within (t.marks C Γ));
         }
     by_kind k e e_literal =

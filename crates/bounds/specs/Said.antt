@@ -170,25 +170,25 @@ start_low k from to h = by (eqb k 64) (eqb k 2) (ltb k 16)
 
 module _ (m : ℕ) where
   module _ (child : Child) (low : (s : List ℕ) (at end d i vars : ℕ) → at ≤ m → end ≤ m → Low m (child s at end d i vars)) where
-    children-low : (fuel : ℕ) (s : List ℕ) (p end d k i vars : ℕ) → p ≤ m → end ≤ m → Low m (children_of child fuel s p end d k i vars)
+    children_low : (fuel : ℕ) (s : List ℕ) (p end d k i vars : ℕ) → p ≤ m → end ≤ m → Low m (children_of child fuel s p end d k i vars)
     unfolding children_of
-    children-low zero s p end d k i vars h g = (omega arith, omega arith, h)
-    children-low (suc fuel) s p end d k i vars h g =
+    children_low zero s p end d k i vars h g = (omega arith, omega arith, h)
+    children_low (suc fuel) s p end d k i vars h g =
         low_test m _ _ _ (λ e. g) (λ e. low_test m _ _ _ (λ f. (omega arith, omega arith, h))
-        (λ f. low_then m _ _ (low s p end (due_at d k i) i vars h g) (λ q v z. children-low fuel s q end d k (i + 1) v z g)))
+        (λ f. low_then m _ _ (low s p end (due_at d k i) i vars h g) (λ q v z. children_low fuel s q end d k (i + 1) v z g)))
 
-    record-low : (left : ℕ) (s : List ℕ) (at end d i vars : ℕ) → at ≤ m → end ≤ m → Low m (record_by child left s at end d i vars)
+    record_low : (left : ℕ) (s : List ℕ) (at end d i vars : ℕ) → at ≤ m → end ≤ m → Low m (record_by child left s at end d i vars)
     unfolding record_by
-    record-low left s at end d i vars h g = low_test m _ _ _
+    record_low left s at end d i vars h g = low_test m _ _ _
         (λ e. let z = framed s at end left d i vars (eqb-true _ 0 e) in
         let n : end_at s at ≤ m = omega (arith, z.0) in
-        children-low _ s _ _ d _ 0 _ (omega (arith, start_low (kind_at s at) (at + 6) (end_at s at) z.1, n)) n)
+        children_low _ s _ _ d _ 0 _ (omega (arith, start_low (kind_at s at) (at + 6) (end_at s at) z.1, n)) n)
         (λ e. (positive (refusal_of (header_of s at end left d i vars)) e, numbered s at end left d i vars, h))
 
   records_low : (left : ℕ) (s : List ℕ) (at end d i vars : ℕ) → at ≤ m → end ≤ m → Low m (record_of left s at end d i vars)
   unfolding record_of
-  records_low zero = record-low (λ s at end d i vars. Fault 6 at) (λ s at end d i vars h g. (omega arith, omega arith, h)) zero
-  records_low (suc left) = record-low (record_of left) (records_low left) (suc left)
+  records_low zero = record_low (λ s at end d i vars. Fault 6 at) (λ s at end d i vars h g. (omega arith, omega arith, h)) zero
+  records_low (suc left) = record_low (record_of left) (records_low left) (suc left)
 
   whole_low : (img : List ℕ) (x : Seen) → Low m x → Low m (whole_of img x)
   unfolding whole_of

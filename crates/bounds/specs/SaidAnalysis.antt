@@ -11,10 +11,10 @@ use Rattle.rules.specs.Types.{Typ, type_named, Local, Env, find}
 use Rattle.rules.specs.Refusal.{Refusal}
 use Rattle.rules.specs.Builtins.{Builtin, builtin, arity}
 use Rattle.rules.specs.Analyse as analysis
-use Rattle.rules.specs.Ambiguous.{is_ambiguous_lem, inExpr, inExprs, inInits, inStmt, inStmts, in_functions, first_ambiguous_lem}
+use Rattle.rules.specs.Ambiguous.{is_ambiguous_lem, in_expr_lem, in_exprs, in_inits_lem, in_stmt_lem, in_stmts, in_functions, first_ambiguous_lem}
 use Rattle.rules.specs.Build.{clear}
 use Rattle.bounds.specs.Held.{Opt, opt_or, opt_pick, Each, each_last}
-use Rattle.bounds.specs.Whole.{Short, ShortTypes, Here, Named, Whole, Whole-exprs, Whole-inits, Whole-stmt, Whole-stmts, WholeFunction}
+use Rattle.bounds.specs.Whole.{Short, ShortTypes, Here, Named, Whole, WholeExprs, WholeInits, WholeStmt, WholeStmts, WholeFunction}
 use Rattle.bounds.specs.Said.{Said, said_ok, said_bad, Any, said_then, said_pick, said_known, said_found, said_unless, ShortType, AllowsFront}
 
 -- 001: Type::from_str, of a short name
@@ -128,114 +128,114 @@ module _ (img : List ℕ) (Q : Refusal → Type 0) (A : AllowsFront img Q) (C : 
   access_said p Typ.void x h g z = said_bad (Refusal.not_struct p) (A.not_struct p h)
 
   mutual
-    unfolding analysis.expr analysis.exprs analysis.inits Whole Whole-exprs Whole-inits
+    unfolding analysis.expr analysis.exprs analysis.inits Whole WholeExprs WholeInits
 
-    type-said : (e : Expr) (Γ : Env) → Whole img e → ShortEnv Γ → Said Q ShortType (analysis.expr C e Γ)
-    type-said (Expr.no-expr p) Γ h g = absurd h
-    type-said (Expr.int p v) Γ h g = said_ok _ tt
-    type-said (Expr.ident p x) Γ h g = said_known _ _ (A.undefined_name p x h) (short_find x Γ g)
-    type-said (Expr.storage-read p x) Γ h g = said_ok _ tt
-    type-said (Expr.mapping-read p x e) Γ h g = said_then _ _ (type-said e Γ h.1 g) (λ k u. said_ok _ tt)
-    type-said (Expr.field-access p e x) Γ h g = said_then _ _ (type-said e Γ h.1 g) (λ t u. access_said p t x h.0 u h.2)
-    type-said (Expr.literal p x is) Γ h g =
-        said_then _ _ (said_found _ _ (A.no_struct p x h.0)) (λ s u. said_then _ _ (fields-said s is Γ h.2 g) (λ v w. said_ok _ h.0.short))
-    type-said (Expr.binary p a o b) Γ h g =
-        said_then _ _ (type-said a Γ h.1 g) (λ l u. said_then _ _ (type-said b Γ h.2 g) (λ r w. said_unless _ _ _ (A.operands p h.0) u))
-    type-said (Expr.call p f es) Γ h g =
-        said_then _ _ (types-said es Γ h.2 g) (λ vs u. applied_said p f _ _ _ h.0 (misfit_said _ 0 vs u) (short_signature C S f))
+    type_said : (e : Expr) (Γ : Env) → Whole img e → ShortEnv Γ → Said Q ShortType (analysis.expr C e Γ)
+    type_said (Expr.no-expr p) Γ h g = absurd h
+    type_said (Expr.int p v) Γ h g = said_ok _ tt
+    type_said (Expr.ident p x) Γ h g = said_known _ _ (A.undefined_name p x h) (short_find x Γ g)
+    type_said (Expr.storage-read p x) Γ h g = said_ok _ tt
+    type_said (Expr.mapping-read p x e) Γ h g = said_then _ _ (type_said e Γ h.1 g) (λ k u. said_ok _ tt)
+    type_said (Expr.field-access p e x) Γ h g = said_then _ _ (type_said e Γ h.1 g) (λ t u. access_said p t x h.0 u h.2)
+    type_said (Expr.literal p x is) Γ h g =
+        said_then _ _ (said_found _ _ (A.no_struct p x h.0)) (λ s u. said_then _ _ (fields_said s is Γ h.2 g) (λ v w. said_ok _ h.0.short))
+    type_said (Expr.binary p a o b) Γ h g =
+        said_then _ _ (type_said a Γ h.1 g) (λ l u. said_then _ _ (type_said b Γ h.2 g) (λ r w. said_unless _ _ _ (A.operands p h.0) u))
+    type_said (Expr.call p f es) Γ h g =
+        said_then _ _ (types_said es Γ h.2 g) (λ vs u. applied_said p f _ _ _ h.0 (misfit_said _ 0 vs u) (short_signature C S f))
 
-    types-said : (es : Exprs) (Γ : Env) → Whole-exprs img es → ShortEnv Γ → Said Q Args (analysis.exprs C es Γ)
-    types-said Exprs.none Γ h g = said_ok _ tt
-    types-said (Exprs.more e es) Γ h g = said_then _ _ (type-said e Γ h.0 g) (λ t u. said_then _ _ (types-said es Γ h.1 g) (λ vs w. said_ok _ (own e h.0, w)))
+    types_said : (es : Exprs) (Γ : Env) → WholeExprs img es → ShortEnv Γ → Said Q Args (analysis.exprs C es Γ)
+    types_said Exprs.none Γ h g = said_ok _ tt
+    types_said (Exprs.more e es) Γ h g = said_then _ _ (type_said e Γ h.0 g) (λ t u. said_then _ _ (types_said es Γ h.1 g) (λ vs w. said_ok _ (own e h.0, w)))
 
-    fields-said : (s : Struct) (is : Inits) (Γ : Env) → Whole-inits img is → ShortEnv Γ → Said Q (Any (Unit {0})) (analysis.inits C s is Γ)
-    fields-said s Inits.no-init Γ h g = said_ok _ tt
-    fields-said s (Inits.init p x e is) Γ h g = said_then _ _ (type-said e Γ h.1 g) (λ t u. said_then _ _ (init_said p x _ t h.0) (λ w z. fields-said s is Γ h.2 g))
+    fields_said : (s : Struct) (is : Inits) (Γ : Env) → WholeInits img is → ShortEnv Γ → Said Q (Any (Unit {0})) (analysis.inits C s is Γ)
+    fields_said s Inits.no-init Γ h g = said_ok _ tt
+    fields_said s (Inits.init p x e is) Γ h g = said_then _ _ (type_said e Γ h.1 g) (λ t u. said_then _ _ (init_said p x _ t h.0) (λ w z. fields_said s is Γ h.2 g))
 
   module _ (ret : Typ) (R : ShortType ret) where
     mutual
-      unfolding analysis.stmt analysis.stmts Whole-stmt Whole-stmts
+      unfolding analysis.stmt analysis.stmts WholeStmt WholeStmts
 
-      scope-said : (x : Stmt) (Γ : Env) → Whole-stmt img x → ShortEnv Γ → Said Q ShortEnv (analysis.stmt C ret x Γ)
-      scope-said (Stmt.no-stmt p) Γ h g = absurd h
-      scope-said (Stmt.let-in p x e) Γ h g = said_then _ _ (type-said e Γ h.1 g) (λ t u. said_ok _ (u, g))
-      scope-said (Stmt.constrain p e) Γ h g = said_then _ _ (type-said e Γ h.1 g) (λ t u. said_ok _ g)
-      scope-said (Stmt.assign p x e) Γ h g =
+      scope_said : (x : Stmt) (Γ : Env) → WholeStmt img x → ShortEnv Γ → Said Q ShortEnv (analysis.stmt C ret x Γ)
+      scope_said (Stmt.no-stmt p) Γ h g = absurd h
+      scope_said (Stmt.let-in p x e) Γ h g = said_then _ _ (type_said e Γ h.1 g) (λ t u. said_ok _ (u, g))
+      scope_said (Stmt.constrain p e) Γ h g = said_then _ _ (type_said e Γ h.1 g) (λ t u. said_ok _ g)
+      scope_said (Stmt.assign p x e) Γ h g =
           said_then _ _ (said_known _ _ (A.undefined_target p x h.0) (short_find x Γ g)) (λ a u.
-          said_then _ _ (type-said e Γ h.1 g) (λ t w. said_unless _ _ _ (A.assign_type p a t h.0.here u w) g))
-      scope-said (Stmt.storage-write p x e) Γ h g = said_then _ _ (type-said e Γ h.1 g) (λ t u. said_ok _ g)
-      scope-said (Stmt.mapping-write p x e f) Γ h g = said_then _ _ (type-said e Γ h.1 g) (λ k u. said_then _ _ (type-said f Γ h.2 g) (λ t w. said_ok _ g))
-      scope-said (Stmt.if-else p c t e) Γ h g = said_then _ _ (type-said c Γ h.1 g) (λ k u. said_then _ _ (scopes-said t Γ h.3 g) (λ Δ w. scopes-said e Δ h.5 w))
-      scope-said (Stmt.while p c b) Γ h g = said_then _ _ (type-said c Γ h.1 g) (λ k u. scopes-said b Γ h.3 g)
-      scope-said (Stmt.for p x e f b) Γ h g =
-          said_then _ _ (type-said e Γ h.1 g) (λ k u. said_then _ _ (type-said f Γ h.2 g) (λ t w. said_then _ _ (scopes-said b _ h.4 (tt, g)) (λ Δ z. said_ok _ g)))
-      scope-said (Stmt.return p e) Γ h g = said_then _ _ (type-said e Γ h.1 g) (λ t u. said_unless _ _ _ (A.return_type p ret t h.0 R u) g)
-      scope-said (Stmt.return-none p) Γ h g = said_unless _ _ _ (A.return_type p ret Typ.void h R tt) g
-      scope-said (Stmt.emits p x es) Γ h g = said_then _ _ (types-said es Γ h.2 g) (λ vs u. said_ok _ g)
-      scope-said (Stmt.just p e) Γ h g = said_then _ _ (type-said e Γ h.1 g) (λ t u. said_ok _ g)
+          said_then _ _ (type_said e Γ h.1 g) (λ t w. said_unless _ _ _ (A.assign_type p a t h.0.here u w) g))
+      scope_said (Stmt.storage-write p x e) Γ h g = said_then _ _ (type_said e Γ h.1 g) (λ t u. said_ok _ g)
+      scope_said (Stmt.mapping-write p x e f) Γ h g = said_then _ _ (type_said e Γ h.1 g) (λ k u. said_then _ _ (type_said f Γ h.2 g) (λ t w. said_ok _ g))
+      scope_said (Stmt.if-else p c t e) Γ h g = said_then _ _ (type_said c Γ h.1 g) (λ k u. said_then _ _ (scopes_said t Γ h.3 g) (λ Δ w. scopes_said e Δ h.5 w))
+      scope_said (Stmt.while p c b) Γ h g = said_then _ _ (type_said c Γ h.1 g) (λ k u. scopes_said b Γ h.3 g)
+      scope_said (Stmt.for p x e f b) Γ h g =
+          said_then _ _ (type_said e Γ h.1 g) (λ k u. said_then _ _ (type_said f Γ h.2 g) (λ t w. said_then _ _ (scopes_said b _ h.4 (tt, g)) (λ Δ z. said_ok _ g)))
+      scope_said (Stmt.return p e) Γ h g = said_then _ _ (type_said e Γ h.1 g) (λ t u. said_unless _ _ _ (A.return_type p ret t h.0 R u) g)
+      scope_said (Stmt.return-none p) Γ h g = said_unless _ _ _ (A.return_type p ret Typ.void h R tt) g
+      scope_said (Stmt.emits p x es) Γ h g = said_then _ _ (types_said es Γ h.2 g) (λ vs u. said_ok _ g)
+      scope_said (Stmt.just p e) Γ h g = said_then _ _ (type_said e Γ h.1 g) (λ t u. said_ok _ g)
 
-      scopes-said : (xs : Stmts) (Γ : Env) → Whole-stmts img xs → ShortEnv Γ → Said Q ShortEnv (analysis.stmts C ret xs Γ)
-      scopes-said Stmts.none Γ h g = said_ok _ g
-      scopes-said (Stmts.more x xs) Γ h g = said_then _ _ (scope-said x Γ h.0 g) (λ Δ u. scopes-said xs Δ h.1 u)
+      scopes_said : (xs : Stmts) (Γ : Env) → WholeStmts img xs → ShortEnv Γ → Said Q ShortEnv (analysis.stmts C ret xs Γ)
+      scopes_said Stmts.none Γ h g = said_ok _ g
+      scopes_said (Stmts.more x xs) Γ h g = said_then _ _ (scope_said x Γ h.0 g) (λ Δ u. scopes_said xs Δ h.1 u)
 
   -- Rows 10 to 22.
   pub analysis_said : (fs : List Function) → Each (λ (f : Function). WholeFunction img f) fs → Said Q (Any (Unit {0})) (analysis.functions C fs)
   unfolding analysis.functions analysis.function
   analysis_said [] h = said_ok _ tt
   analysis_said (f ∷ fs) h =
-      said_then {O = Any (Unit {0})} _ _ (said_then _ _ (scopes-said _ (short_ret f.ret h.0.ret) f.body _ h.0.stmts (short_params f.params [] h.0.types tt)) (λ Γ u. said_ok _ tt))
+      said_then {O = Any (Unit {0})} _ _ (said_then _ _ (scopes_said _ (short_ret f.ret h.0.ret) f.body _ h.0.stmts (short_params f.params [] h.0.types tt)) (λ Γ u. said_ok _ tt))
       (λ w z. analysis_said fs h.1)
 
 -- Row 30.
 module _ (img : List ℕ) (C : Contract) where
   mutual
-    unfolding inExpr inExprs inInits Whole Whole-exprs Whole-inits
+    unfolding in_expr_lem in_exprs in_inits_lem Whole WholeExprs WholeInits
 
-    expr-spot : (e : Expr) → Whole img e → Opt (Here img) (inExpr C e)
-    expr-spot (Expr.no-expr p) h = tt
-    expr-spot (Expr.int p v) h = tt
-    expr-spot (Expr.ident p x) h = tt
-    expr-spot (Expr.storage-read p x) h = tt
-    expr-spot (Expr.mapping-read p x e) h = expr-spot e h.1
-    expr-spot (Expr.field-access p e x) h = opt_pick _ (is_ambiguous_lem C p x) _ _ h.0 (expr-spot e h.1)
-    expr-spot (Expr.literal p x is) h = inits-spot is h.2
-    expr-spot (Expr.binary p a o b) h = opt_or _ _ _ (expr-spot a h.1) (expr-spot b h.2)
-    expr-spot (Expr.call p f es) h = exprs-spot es h.2
+    expr_spot : (e : Expr) → Whole img e → Opt (Here img) (in_expr_lem C e)
+    expr_spot (Expr.no-expr p) h = tt
+    expr_spot (Expr.int p v) h = tt
+    expr_spot (Expr.ident p x) h = tt
+    expr_spot (Expr.storage-read p x) h = tt
+    expr_spot (Expr.mapping-read p x e) h = expr_spot e h.1
+    expr_spot (Expr.field-access p e x) h = opt_pick _ (is_ambiguous_lem C p x) _ _ h.0 (expr_spot e h.1)
+    expr_spot (Expr.literal p x is) h = inits_spot is h.2
+    expr_spot (Expr.binary p a o b) h = opt_or _ _ _ (expr_spot a h.1) (expr_spot b h.2)
+    expr_spot (Expr.call p f es) h = exprs_spot es h.2
 
-    exprs-spot : (es : Exprs) → Whole-exprs img es → Opt (Here img) (inExprs C es)
-    exprs-spot Exprs.none h = tt
-    exprs-spot (Exprs.more e es) h = opt_or _ _ _ (expr-spot e h.0) (exprs-spot es h.1)
+    exprs_spot : (es : Exprs) → WholeExprs img es → Opt (Here img) (in_exprs C es)
+    exprs_spot Exprs.none h = tt
+    exprs_spot (Exprs.more e es) h = opt_or _ _ _ (expr_spot e h.0) (exprs_spot es h.1)
 
-    inits-spot : (is : Inits) → Whole-inits img is → Opt (Here img) (inInits C is)
-    inits-spot Inits.no-init h = tt
-    inits-spot (Inits.init p x e is) h = opt_or _ _ _ (expr-spot e h.1) (inits-spot is h.2)
+    inits_spot : (is : Inits) → WholeInits img is → Opt (Here img) (in_inits_lem C is)
+    inits_spot Inits.no-init h = tt
+    inits_spot (Inits.init p x e is) h = opt_or _ _ _ (expr_spot e h.1) (inits_spot is h.2)
 
   mutual
-    unfolding inStmt inStmts Whole-stmt Whole-stmts
+    unfolding in_stmt_lem in_stmts WholeStmt WholeStmts
 
-    stmt-spot : (x : Stmt) → Whole-stmt img x → Opt (Here img) (inStmt C x)
-    stmt-spot (Stmt.no-stmt p) h = tt
-    stmt-spot (Stmt.let-in p x e) h = expr-spot e h.1
-    stmt-spot (Stmt.constrain p e) h = expr-spot e h.1
-    stmt-spot (Stmt.assign p x e) h = expr-spot e h.1
-    stmt-spot (Stmt.storage-write p x e) h = expr-spot e h.1
-    stmt-spot (Stmt.mapping-write p x e f) h = opt_or _ _ _ (expr-spot e h.1) (expr-spot f h.2)
-    stmt-spot (Stmt.if-else p c t e) h = opt_or _ _ _ (expr-spot c h.1) (opt_or _ _ _ (stmts-spot t h.3) (stmts-spot e h.5))
-    stmt-spot (Stmt.while p c b) h = opt_or _ _ _ (expr-spot c h.1) (stmts-spot b h.3)
-    stmt-spot (Stmt.for p x e f b) h = opt_or _ _ _ (expr-spot e h.1) (opt_or _ _ _ (expr-spot f h.2) (stmts-spot b h.4))
-    stmt-spot (Stmt.return p e) h = expr-spot e h.1
-    stmt-spot (Stmt.return-none p) h = tt
-    stmt-spot (Stmt.emits p x es) h = exprs-spot es h.2
-    stmt-spot (Stmt.just p e) h = expr-spot e h.1
+    stmt_spot : (x : Stmt) → WholeStmt img x → Opt (Here img) (in_stmt_lem C x)
+    stmt_spot (Stmt.no-stmt p) h = tt
+    stmt_spot (Stmt.let-in p x e) h = expr_spot e h.1
+    stmt_spot (Stmt.constrain p e) h = expr_spot e h.1
+    stmt_spot (Stmt.assign p x e) h = expr_spot e h.1
+    stmt_spot (Stmt.storage-write p x e) h = expr_spot e h.1
+    stmt_spot (Stmt.mapping-write p x e f) h = opt_or _ _ _ (expr_spot e h.1) (expr_spot f h.2)
+    stmt_spot (Stmt.if-else p c t e) h = opt_or _ _ _ (expr_spot c h.1) (opt_or _ _ _ (stmts_spot t h.3) (stmts_spot e h.5))
+    stmt_spot (Stmt.while p c b) h = opt_or _ _ _ (expr_spot c h.1) (stmts_spot b h.3)
+    stmt_spot (Stmt.for p x e f b) h = opt_or _ _ _ (expr_spot e h.1) (opt_or _ _ _ (expr_spot f h.2) (stmts_spot b h.4))
+    stmt_spot (Stmt.return p e) h = expr_spot e h.1
+    stmt_spot (Stmt.return-none p) h = tt
+    stmt_spot (Stmt.emits p x es) h = exprs_spot es h.2
+    stmt_spot (Stmt.just p e) h = expr_spot e h.1
 
-    stmts-spot : (xs : Stmts) → Whole-stmts img xs → Opt (Here img) (inStmts C xs)
-    stmts-spot Stmts.none h = tt
-    stmts-spot (Stmts.more x xs) h = opt_or _ _ _ (stmt-spot x h.0) (stmts-spot xs h.1)
+    stmts_spot : (xs : Stmts) → WholeStmts img xs → Opt (Here img) (in_stmts C xs)
+    stmts_spot Stmts.none h = tt
+    stmts_spot (Stmts.more x xs) h = opt_or _ _ _ (stmt_spot x h.0) (stmts_spot xs h.1)
 
   functions_spot : (fs : List Function) → Each (λ (f : Function). WholeFunction img f) fs → Opt (Here img) (in_functions C fs)
   unfolding in_functions
   functions_spot [] h = tt
-  functions_spot (f ∷ fs) h = opt_or _ _ _ (stmts-spot f.body h.0.stmts) (functions_spot fs h.1)
+  functions_spot (f ∷ fs) h = opt_or _ _ _ (stmts_spot f.body h.0.stmts) (functions_spot fs h.1)
 
   -- The first ambiguous access.
   pub clear_said : (Q : Refusal → Type 0) → AllowsFront img Q → Each (λ (f : Function). WholeFunction img f) C.functions → Said Q (Any (Unit {0})) (clear (first_ambiguous_lem C))

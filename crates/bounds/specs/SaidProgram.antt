@@ -20,7 +20,7 @@ use Rattle.rules.specs.Generate.{alloc_reg_lem, slot, result, apply, number, exp
 use Rattle.rules.specs.Link.{Program, functions, with_main, generate}
 use Rattle.rules.specs.Build.{clear, analysed, judged, program}
 use Rattle.bounds.specs.Held.{Opt, Each}
-use Rattle.bounds.specs.Whole.{Short, Here, Whole, Whole-exprs, Whole-inits, Whole-stmt, Whole-stmts, WholeFunction}
+use Rattle.bounds.specs.Whole.{Short, Here, Whole, WholeExprs, WholeInits, WholeStmt, WholeStmts, WholeFunction}
 use Rattle.bounds.specs.ContractOf.{uncut, all_whole}
 use Rattle.bounds.specs.Said.{Said, said_ok, said_bad, Any, said_then, said_pick, said_found, AllowsFront, AllowsGeneration, Allows, AllowsFaults, check_said}
 use Rattle.bounds.specs.SaidAnalysis.{analysis_said, clear_said}
@@ -58,63 +58,63 @@ module _ (img : List ℕ) (Q : Refusal → Type 0) (A : AllowsGeneration img Q) 
       (said_then _ _ (alloc_said p n h) (λ r u. said_then _ _ (alloc_said p _ h) (λ s w. said_then _ _ (alloc_said p _ h) (λ t z. said_ok _ tt))))
 
   mutual
-    unfolding expr exprs inits Whole Whole-exprs Whole-inits
+    unfolding expr exprs inits Whole WholeExprs WholeInits
 
-    expr-said : (e : Expr) (s : Scope) (n : ℕ) → Whole img e → Sure Q (expr R C e s n)
-    expr-said (Expr.no-expr p) s n h = absurd h
-    expr-said (Expr.int p v) s n h = number_said p v n h
-    expr-said (Expr.ident p x) s n h = said_then _ _ (said_found _ _ (A.unread p x h)) (λ r u. said_ok _ tt)
-    expr-said (Expr.storage-read p x) s n h = said_then _ _ (alloc_said p n h.here) (λ r u. said_then _ _ (slot_said _ x (A.storage_unread p x h)) (λ k w. said_ok _ tt))
-    expr-said (Expr.mapping-read p x e) s n h =
-        said_then _ _ (slot_said _ x (A.mapping_unread p x h.0)) (λ k u. said_then _ _ (expr-said e s n h.1) (λ v w.
+    expr_said : (e : Expr) (s : Scope) (n : ℕ) → Whole img e → Sure Q (expr R C e s n)
+    expr_said (Expr.no-expr p) s n h = absurd h
+    expr_said (Expr.int p v) s n h = number_said p v n h
+    expr_said (Expr.ident p x) s n h = said_then _ _ (said_found _ _ (A.unread p x h)) (λ r u. said_ok _ tt)
+    expr_said (Expr.storage-read p x) s n h = said_then _ _ (alloc_said p n h.here) (λ r u. said_then _ _ (slot_said _ x (A.storage_unread p x h)) (λ k w. said_ok _ tt))
+    expr_said (Expr.mapping-read p x e) s n h =
+        said_then _ _ (slot_said _ x (A.mapping_unread p x h.0)) (λ k u. said_then _ _ (expr_said e s n h.1) (λ v w.
         said_then _ _ (alloc_said p _ h.0.here) (λ b y. said_then _ _ (alloc_said p _ h.0.here) (λ t z. said_then _ _ (alloc_said p _ h.0.here) (λ r q. said_ok _ tt)))))
-    expr-said (Expr.field-access p e x) s n h = said_then _ _ (expr-said e s n h.1) (λ v u. said_then _ _ (alloc_said p _ h.0) (λ r w. said_ok _ tt))
-    expr-said (Expr.literal p x is) s n h =
-        said_then _ _ (alloc_said p n h.0.here) (λ q u. said_then _ _ (inits-said is s _ h.2) (λ a w.
+    expr_said (Expr.field-access p e x) s n h = said_then _ _ (expr_said e s n h.1) (λ v u. said_then _ _ (alloc_said p _ h.0) (λ r w. said_ok _ tt))
+    expr_said (Expr.literal p x is) s n h =
+        said_then _ _ (alloc_said p n h.0.here) (λ q u. said_then _ _ (inits_said is s _ h.2) (λ a w.
         said_then _ _ (alloc_said p _ h.0.here) (λ z y. said_then _ _ (alloc_said p n h.0.here) (λ r k. said_ok _ tt))))
-    expr-said (Expr.binary p a o b) s n h = said_then _ _ (expr-said a s n h.1) (λ l u. said_then _ _ (expr-said b s _ h.2) (λ r w. said_then _ _ (result_said p n _ _ h.0) (λ d z. said_ok _ tt)))
-    expr-said (Expr.call p f es) s n h = apply_said p f n _ _ h.0.here (exprs-said es s n h.2)
+    expr_said (Expr.binary p a o b) s n h = said_then _ _ (expr_said a s n h.1) (λ l u. said_then _ _ (expr_said b s _ h.2) (λ r w. said_then _ _ (result_said p n _ _ h.0) (λ d z. said_ok _ tt)))
+    expr_said (Expr.call p f es) s n h = apply_said p f n _ _ h.0.here (exprs_said es s n h.2)
 
-    exprs-said : (es : Exprs) (s : Scope) (n : ℕ) → Whole-exprs img es → Sure Q (exprs R C es s n)
-    exprs-said Exprs.none s n h = said_ok _ tt
-    exprs-said (Exprs.more e es) s n h = said_then _ _ (expr-said e s n h.0) (λ v u. said_then _ _ (exprs-said es s _ h.1) (λ vs w. said_ok _ tt))
+    exprs_said : (es : Exprs) (s : Scope) (n : ℕ) → WholeExprs img es → Sure Q (exprs R C es s n)
+    exprs_said Exprs.none s n h = said_ok _ tt
+    exprs_said (Exprs.more e es) s n h = said_then _ _ (expr_said e s n h.0) (λ v u. said_then _ _ (exprs_said es s _ h.1) (λ vs w. said_ok _ tt))
 
-    inits-said : (is : Inits) (s : Scope) (n : ℕ) → Whole-inits img is → Sure Q (inits R C is s n)
-    inits-said Inits.no-init s n h = said_ok _ tt
-    inits-said (Inits.init q x e is) s n h = said_then _ _ (expr-said e s n h.1) (λ v u. said_then _ _ (inits-said is s _ h.2) (λ vs w. said_ok _ tt))
+    inits_said : (is : Inits) (s : Scope) (n : ℕ) → WholeInits img is → Sure Q (inits R C is s n)
+    inits_said Inits.no-init s n h = said_ok _ tt
+    inits_said (Inits.init q x e is) s n h = said_then _ _ (expr_said e s n h.1) (λ v u. said_then _ _ (inits_said is s _ h.2) (λ vs w. said_ok _ tt))
 
-  logs_said : (p : ℕ) (es : Exprs) (s : Scope) (n : ℕ) → Whole-exprs img es → Sure Q (logs R C p es s n)
-  unfolding logs Whole-exprs
+  logs_said : (p : ℕ) (es : Exprs) (s : Scope) (n : ℕ) → WholeExprs img es → Sure Q (logs R C p es s n)
+  unfolding logs WholeExprs
   logs_said p Exprs.none s n h = said_ok _ tt
-  logs_said p (Exprs.more e es) s n h = said_then _ _ (expr-said e s n h.0) (λ v u. said_then _ _ (logs_said p es s _ h.1) (λ l w. said_ok _ tt))
+  logs_said p (Exprs.more e es) s n h = said_then _ _ (expr_said e s n h.0) (λ v u. said_then _ _ (logs_said p es s _ h.1) (λ l w. said_ok _ tt))
 
   mutual
-    unfolding stmt stmts Whole-stmt Whole-stmts
+    unfolding stmt stmts WholeStmt WholeStmts
 
-    stmt-said : (x : Stmt) (s : Scope) (n : ℕ) → Whole-stmt img x → Sure Q (stmt R C x s n)
-    stmt-said (Stmt.no-stmt p) s n h = absurd h
-    stmt-said (Stmt.let-in p x e) s n h =
-        said_then _ _ (expr-said e s n h.1) (λ v u. said_pick _ _ _ (said_ok _ tt) (said_pick _ _ _ (said_then _ _ (alloc_said p _ h.0.here) (λ r w. said_ok _ tt)) (said_ok _ tt)))
-    stmt-said (Stmt.constrain p e) s n h = said_then _ _ (expr-said e s n h.1) (λ v u. said_ok _ tt)
-    stmt-said (Stmt.assign p x e) s n h = said_then _ _ (expr-said e s n h.1) (λ v u. said_then _ _ (said_found _ _ (A.unassigned p x h.0)) (λ r w. said_ok _ tt))
-    stmt-said (Stmt.storage-write p x e) s n h = said_then _ _ (expr-said e s n h.1) (λ v u. said_then _ _ (slot_said _ x (A.storage_unwritten p x h.0)) (λ k w. said_ok _ tt))
-    stmt-said (Stmt.mapping-write p x e f) s n h =
-        said_then _ _ (slot_said _ x (A.mapping_unwritten p x h.0)) (λ k u. said_then _ _ (expr-said e s n h.1) (λ v w. said_then _ _ (expr-said f s _ h.2) (λ y z.
+    stmt_said : (x : Stmt) (s : Scope) (n : ℕ) → WholeStmt img x → Sure Q (stmt R C x s n)
+    stmt_said (Stmt.no-stmt p) s n h = absurd h
+    stmt_said (Stmt.let-in p x e) s n h =
+        said_then _ _ (expr_said e s n h.1) (λ v u. said_pick _ _ _ (said_ok _ tt) (said_pick _ _ _ (said_then _ _ (alloc_said p _ h.0.here) (λ r w. said_ok _ tt)) (said_ok _ tt)))
+    stmt_said (Stmt.constrain p e) s n h = said_then _ _ (expr_said e s n h.1) (λ v u. said_ok _ tt)
+    stmt_said (Stmt.assign p x e) s n h = said_then _ _ (expr_said e s n h.1) (λ v u. said_then _ _ (said_found _ _ (A.unassigned p x h.0)) (λ r w. said_ok _ tt))
+    stmt_said (Stmt.storage-write p x e) s n h = said_then _ _ (expr_said e s n h.1) (λ v u. said_then _ _ (slot_said _ x (A.storage_unwritten p x h.0)) (λ k w. said_ok _ tt))
+    stmt_said (Stmt.mapping-write p x e f) s n h =
+        said_then _ _ (slot_said _ x (A.mapping_unwritten p x h.0)) (λ k u. said_then _ _ (expr_said e s n h.1) (λ v w. said_then _ _ (expr_said f s _ h.2) (λ y z.
         said_then _ _ (alloc_said p _ h.0.here) (λ b q. said_then _ _ (alloc_said p _ h.0.here) (λ t r. said_ok _ tt)))))
-    stmt-said (Stmt.if-else p c t e) s n h =
-        said_then _ _ (expr-said c s n h.1) (λ v u. said_then _ _ (stmts_said e s n h.5) (λ a w. said_then _ _ (stmts_said t _ _ h.3) (λ b z. said_ok _ tt)))
-    stmt-said (Stmt.while p c b) s n h = said_then _ _ (expr-said c s n h.1) (λ v u. said_then _ _ (stmts_said b s n h.3) (λ d w. said_ok _ tt))
-    stmt-said (Stmt.for p x e f b) s n h =
-        said_then _ _ (expr-said e s n h.1) (λ v u. said_then _ _ (expr-said f s _ h.2) (λ w y. said_then _ _ (alloc_said p _ h.0.here) (λ i z.
+    stmt_said (Stmt.if-else p c t e) s n h =
+        said_then _ _ (expr_said c s n h.1) (λ v u. said_then _ _ (stmts_said e s n h.5) (λ a w. said_then _ _ (stmts_said t _ _ h.3) (λ b z. said_ok _ tt)))
+    stmt_said (Stmt.while p c b) s n h = said_then _ _ (expr_said c s n h.1) (λ v u. said_then _ _ (stmts_said b s n h.3) (λ d w. said_ok _ tt))
+    stmt_said (Stmt.for p x e f b) s n h =
+        said_then _ _ (expr_said e s n h.1) (λ v u. said_then _ _ (expr_said f s _ h.2) (λ w y. said_then _ _ (alloc_said p _ h.0.here) (λ i z.
         said_then _ _ (alloc_said p _ h.0.here) (λ c q. said_then _ _ (stmts_said b _ _ h.4) (λ d r. said_then _ _ (alloc_said p _ h.0.here) (λ o k. said_ok _ tt))))))
-    stmt-said (Stmt.return p e) s n h = said_then _ _ (alloc_said p n h.0) (λ t u. said_then _ _ (expr-said e s _ h.1) (λ v w. said_ok _ tt))
-    stmt-said (Stmt.return-none p) s n h = said_then _ _ (alloc_said p n h) (λ t u. said_then _ _ (alloc_said p _ h) (λ z w. said_ok _ tt))
-    stmt-said (Stmt.emits p x es) s n h = said_then _ _ (logs_said p es s n h.2) (λ l u. said_ok _ tt)
-    stmt-said (Stmt.just p e) s n h = said_then _ _ (expr-said e s n h.1) (λ v u. said_ok _ tt)
+    stmt_said (Stmt.return p e) s n h = said_then _ _ (alloc_said p n h.0) (λ t u. said_then _ _ (expr_said e s _ h.1) (λ v w. said_ok _ tt))
+    stmt_said (Stmt.return-none p) s n h = said_then _ _ (alloc_said p n h) (λ t u. said_then _ _ (alloc_said p _ h) (λ z w. said_ok _ tt))
+    stmt_said (Stmt.emits p x es) s n h = said_then _ _ (logs_said p es s n h.2) (λ l u. said_ok _ tt)
+    stmt_said (Stmt.just p e) s n h = said_then _ _ (expr_said e s n h.1) (λ v u. said_ok _ tt)
 
-    stmts_said : (xs : Stmts) (s : Scope) (n : ℕ) → Whole-stmts img xs → Sure Q (stmts R C xs s n)
+    stmts_said : (xs : Stmts) (s : Scope) (n : ℕ) → WholeStmts img xs → Sure Q (stmts R C xs s n)
     stmts_said Stmts.none s n h = said_ok _ tt
-    stmts_said (Stmts.more x xs) s n h = said_then _ _ (stmt-said x s n h.0) (λ d u. said_then _ _ (stmts_said xs _ _ h.1) (λ e w. said_ok _ tt))
+    stmts_said (Stmts.more x xs) s n h = said_then _ _ (stmt_said x s n h.0) (λ d u. said_then _ _ (stmts_said xs _ _ h.1) (λ e w. said_ok _ tt))
 
   allocs_said : (p : ℕ) (xs : List Field) (n : ℕ) → Here img p → Sure Q (alloc_regs R C p xs n)
   unfolding alloc_regs

@@ -13,11 +13,11 @@ use Rattle.rules.specs.Check.{counts, vars_in_lem, start_of, record_of}
 use Rattle.rules.specs.Tree.{Stmt, Stmts, Contract}
 use Rattle.rules.specs.Types.{Typ, Env, with_name}
 use Rattle.rules.specs.Analyse as analysis
-use Rattle.rules.specs.Meant.{ofStmt, ofStmts}
+use Rattle.rules.specs.Meant.{of_stmt, of_stmts}
 use Rattle.rules.specs.Read.{when, second, third, fourth, fifth, expr_at, stmt_kind_of, stmts_from, body_at, else_at, stmt_as, stmt_at_lem}
 use Rattle.bounds.specs.Sizes.{nodes-stmt, nodes-stmts, vars, vars-stmts}
 use Rattle.bounds.specs.Sound.{Run, no_more, one_more, Stands, none_left, stands}
-use Rattle.bounds.specs.Whole.{Complete, Whole-stmt, Whole-stmts}
+use Rattle.bounds.specs.Whole.{Complete, WholeStmt, WholeStmts}
 use Rattle.bounds.specs.Sparse.{Sparse, sparse_none, sparse_in, sparse_then, sparse_behind}
 use Rattle.bounds.specs.Runs.{Part, part_due, no_part, vars_grow, name_part, of_kind, run_reads}
 use Rattle.bounds.specs.Exprs as exprs
@@ -27,16 +27,16 @@ module _ (img : List ℕ) where
   -- What is shown of a statement from p to e, the count going from v to m.
   pub record GoodStmt (p e v m : ℕ) (x : Stmt) : Type 0 where
     pub small : p + 6 * nodes-stmt x ≤ e
-    pub whole : Whole-stmt img x
+    pub whole : WholeStmt img x
     pub count : v + vars x ≤ m
-    pub marks : (C : Contract) (ret : Typ) (Γ : Env) → Sparse img p e (ofStmt C ret x Γ)
+    pub marks : (C : Contract) (ret : Typ) (Γ : Env) → Sparse img p e (of_stmt C ret x Γ)
 
   -- Of several.
   pub record GoodStmts (p e v m : ℕ) (xs : Stmts) : Type 0 where
     pub small : p + 6 * nodes-stmts xs ≤ e
-    pub whole : Whole-stmts img xs
+    pub whole : WholeStmts img xs
     pub count : v + vars-stmts xs ≤ m
-    pub marks : (C : Contract) (ret : Typ) (Γ : Env) → Sparse img p e (ofStmts C ret xs Γ)
+    pub marks : (C : Contract) (ret : Typ) (Γ : Env) → Sparse img p e (of_stmts C ret xs Γ)
 
   -- With l levels left: a statement, and a List of them.
   pub record Level (l : ℕ) : Type 0 where
@@ -62,7 +62,7 @@ statements_most d e = subst (λ z. (class_of z).most ≤ 65536) (sym e) (omega a
 -- The statements of a List, its records from the i-th on.
 stmts_run : (l : ℕ) (img : List ℕ) (D : ℕ) → l ≤ D → Level img l → (end d fuel i p v m : ℕ) → end ≤ length img → (class_of d).item ≡ due.Statement → 65536 ≤ fuel + i
     → Run l img end d 2 i p v m → GoodStmts img p end v m (stmts_from fuel (stmt_at_lem D img) img p end)
-unfolding due_at pick class_of classes nodes-stmts Whole-stmts vars-stmts ofStmts
+unfolding due_at pick class_of classes nodes-stmts WholeStmts vars-stmts of_stmts
 stmts_run l img D g L end d fuel i p v m h t b (no_more e n c) =
     subst (GoodStmts img p end v m) (sym (stmts_end fuel (stmt_at_lem D img) img p end e)) (record { small = omega arith; whole = tt; count = omega arith; marks = λ C ret Γ. sparse_none img p end })
 stmts_run zero img D g L end d zero i p v m h t b (one_more n s z o e r) = none_left img p end _ i v (after img p) n e
@@ -138,12 +138,12 @@ module _ (l : ℕ) (img : List ℕ) (L : Level img l) where
   record GoodElse (p e v m : ℕ) (xs : Stmts) : Type 0 where
     small : p + 6 * nodes-stmts xs ≤ e
     complete : p < e → Complete 65536 img p
-    whole : Whole-stmts img xs
+    whole : WholeStmts img xs
     count : v + vars-stmts xs ≤ m
-    marks : (C : Contract) (ret : Typ) (Γ : Env) → Sparse img p e (ofStmts C ret xs Γ)
+    marks : (C : Contract) (ret : Typ) (Γ : Env) → Sparse img p e (of_stmts C ret xs Γ)
 
   else_part : (D : ℕ) → l ≤ D → (end p n m : ℕ) → end ≤ length img → Run l img end due.Statement 37 2 p n m → GoodElse p end n m (else_at (stmt_at_lem D img) img p end)
-  unfolding else_at due_at part_of parts_of statements pick class_of classes nodes-stmts Whole-stmts vars-stmts ofStmts
+  unfolding else_at due_at part_of parts_of statements pick class_of classes nodes-stmts WholeStmts vars-stmts of_stmts
   else_part D g end p n m h (no_more e x c) =
       subst (λ (b : Bool). GoodElse p end n m (when b (λ _. body_at (stmt_at_lem D img) img p) Stmts.none)) (sym (le-ltb p end (omega arith)))
       (record { small = omega arith; complete = λ t. absurd (omega arith); whole = tt; count = omega arith; marks = λ C ret Γ. sparse_none img p end })
@@ -157,7 +157,7 @@ module _ (l : ℕ) (img : List ℕ) (L : Level img l) where
   -- The value of a Return, if there is one.
   return_part : (D : ℕ) → l ≤ D → exprs.Level img l → (at v m : ℕ) → after img at ≤ length img → inside img at ≡ at + 6 → Run l img (after img at) due.Statement 40 0 (inside img at) v m
       → GoodStmt img at (after img at) v m (stmt_as (stmt_kind_of 40) (expr_at D img) (stmt_at_lem D img) img at)
-  unfolding stmt_kind_of stmt_as due_at part_of parts_of statements pick class_of classes nodes-stmt Whole-stmt vars ofStmt
+  unfolding stmt_kind_of stmt_as due_at part_of parts_of statements pick class_of classes nodes-stmt WholeStmt vars of_stmt
   return_part D g E at v m h o (no_more e x c) =
       subst (λ (b : Bool). GoodStmt img at (after img at) v m (when b (λ _. Stmt.return at (expr_at D img (inside img at))) (Stmt.return-none at))) (sym (le-ltb (inside img at) (after img at) (omega arith)))
       (record { small = omega arith; whole = omega arith; count = omega arith; marks = λ C ret Γ. sparse_none img at (after img at) })
@@ -170,7 +170,7 @@ module _ (l : ℕ) (img : List ℕ) (L : Level img l) where
   -- A statement, by its kind.
   module _ (E : exprs.Level img l) (D : ℕ) (g : l ≤ D) (at end i v m : ℕ) (h : end ≤ length img) (w : Stands l img at end due.Statement i v m) where
     by_kind : (k : ℕ) → kind_at img at ≡ k → Eleven k → GoodStmt img at (after img at) v m (stmt_as (stmt_kind_of k) (expr_at D img) (stmt_at_lem D img) img at)
-    unfolding stmt_kind_of stmt_as pick start_of class_of classes due_at part_of parts_of statements nodes-stmt Whole-stmt vars vars_in_lem counts ofStmt
+    unfolding stmt_kind_of stmt_as pick start_of class_of classes due_at part_of parts_of statements nodes-stmt WholeStmt vars vars_in_lem counts of_stmt
     by_kind k e e_let =
         let f : after img at ≤ length img = omega (arith, w.within) in
         let r = of_kind l img at end due.Statement i v m 32 e w in

@@ -17,7 +17,7 @@ use Rattle.rules.specs.Emit.{Rules}
 use Rattle.rules.specs.Link.{Program}
 use Rattle.rules.specs.Lent.{over, spread}
 use Rattle.rules.specs.Build.{outcome, program_answer, words_of, three_of, at_exit, build_of, code_of, table_of}
-use Rattle.lent.specs.Over.{length-spread}
+use Rattle.lent.specs.Over.{length_spread}
 use Rattle.lent.specs.Rest.{Rest, rest_over, all_zero}
 use Rattle.heights.specs.Theorem.{as_many}
 use Rattle.heights.specs.Accepted.{Fitting, accepted}
@@ -48,7 +48,7 @@ module _ (R : Rules) (img code table : List ℕ) (a : Answer) (c t : List ℕ) (
           let w : length (words_of P) ≡ length P.words = length-map P.words number_of in
           let n : length (words_of P) ≡ a.count = w ∙ sym (ap (λ (x : Answer). x.count) b.answer ∙ rw e refl) in
           let l : length P.table ≡ length (contract_at img).functions = as_many R img P f.is in
-          let k : length (spread three_of P.table) ≡ 3 * length (contract_at img).functions = length-spread three_of 3 three P.table ∙ ap (λ (m : ℕ). 3 * m) l in
+          let k : length (spread three_of P.table) ≡ 3 * length (contract_at img).functions = length_spread three_of 3 three P.table ∙ ap (λ (m : ℕ). 3 * m) l in
           let c-is : over (words_of P) code ≡ c = sym (b.words ∙ rw e refl) in
           let t-is : over (spread three_of P.table) table ≡ t = sym (b.entries ∙ rw e refl) in (
             subst (λ (m : ℕ). Rest m code c) n (subst (λ (s : List ℕ). Rest (length (words_of P)) code s) c-is (rest_over (words_of P) code (omega (arith, w, f.words)))),

@@ -1,7 +1,7 @@
 -- Words one behind the other, each by its number in the run, laid by a loop over what was lent.
 --     Laying     what is left to lay, laid behind what is there, gives all laid over what was lent
---     numbers-go, numbers-end               as numbers
---     bytes-go, bytes-end, bytes-last       as bytes; of the last word a part
+--     numbers_go, numbers_end               as numbers
+--     bytes_go, bytes_end, bytes_last       as bytes; of the last word a part
 -- Assumes nothing.
 use Rattle.std.specs.Prelude.{◌≡◌, refl, set}
 use Rattle.std.proofs.Common.{sym, ◌∙◌, length-set}
@@ -69,8 +69,8 @@ module _ (w : ℕ → ℕ) where
     begins lay = record { room = refl; place = omega arith; left = refl }
 
     module _ {s : List ℕ} {j a i x : ℕ} where
-      pub numbers-go : Laying numbers w n e a₀ s₀ s j a i → j < e → x ≡ w a → Laying numbers w n e a₀ s₀ (set s j x) (j + 1) (a + 1) (i + 1)
-      numbers-go l h f = record {
+      pub numbers_go : Laying numbers w n e a₀ s₀ s j a i → j < e → x ≡ w a → Laying numbers w n e a₀ s₀ (set s j x) (j + 1) (a + 1) (i + 1)
+      numbers_go l h f = record {
         room = length-set s j x ∙ l.room;
         place = omega (arith, l.place);
         left = ap (λ (y : ℕ). numbers (j + 1) (run w (a + 1) (e - (j + 1))) (set s j y)) f
@@ -79,9 +79,9 @@ module _ (w : ℕ → ℕ) where
             ∙ l.left;
       }
 
-      pub bytes-go : {t : List ℕ} → Laying bytes w n e a₀ s₀ s j a i → j < e → x ≡ w a → t ≡ over_at (8 * j) (word_bytes x) s → Laying bytes w n e a₀ s₀ t (j + 1) (a + 1) (i + 1)
+      pub bytes_go : {t : List ℕ} → Laying bytes w n e a₀ s₀ s j a i → j < e → x ≡ w a → t ≡ over_at (8 * j) (word_bytes x) s → Laying bytes w n e a₀ s₀ t (j + 1) (a + 1) (i + 1)
       unfolding spread word_bytes
-      bytes-go l h f g = record {
+      bytes_go l h f g = record {
         room = ap length g ∙ length_over_at (8 * j) (word_bytes x) s ∙ l.room;
         place = omega (arith, l.place);
         left = ap (bytes (j + 1) (run w (a + 1) (e - (j + 1)))) (g ∙ ap (λ (y : ℕ). over_at (8 * j) (word_bytes y) s) f)
@@ -92,13 +92,13 @@ module _ (w : ℕ → ℕ) where
 
     module _ {s : List ℕ} {j a i : ℕ} where
       -- as far as the words go, or the slice
-      pub numbers-end : Laying numbers w n e a₀ s₀ s j a i → min e (length s₀) ≤ j → s ≡ numbers n (run w a₀ (e - n)) s₀
-      numbers-end l h = sym (numbers_past a (e - j) j s (λ z. omega (arith, z, h, l.room))) ∙ l.left
+      pub numbers_end : Laying numbers w n e a₀ s₀ s j a i → min e (length s₀) ≤ j → s ≡ numbers n (run w a₀ (e - n)) s₀
+      numbers_end l h = sym (numbers_past a (e - j) j s (λ z. omega (arith, z, h, l.room))) ∙ l.left
 
-      pub bytes-end : Laying bytes w n e a₀ s₀ s j a i → e ≤ j → s ≡ bytes n (run w a₀ (e - n)) s₀
-      bytes-end l h = sym (bytes_past a (e - j) j s (λ z. omega (arith, z, h))) ∙ l.left
+      pub bytes_end : Laying bytes w n e a₀ s₀ s j a i → e ≤ j → s ≡ bytes n (run w a₀ (e - n)) s₀
+      bytes_end l h = sym (bytes_past a (e - j) j s (λ z. omega (arith, z, h))) ∙ l.left
 
-      pub bytes-last : {t : List ℕ} {x : ℕ} → Laying bytes w n e a₀ s₀ s j a i → min e (length s₀ / 8) ≤ j → j < e → x ≡ w a → t ≡ over_at (8 * j) (word_bytes x) s → t ≡ bytes n (run w a₀ (e - n)) s₀
-      bytes-last {t} l m h f g =
-          let k = bytes-go l h f g in
+      pub bytes_last : {t : List ℕ} {x : ℕ} → Laying bytes w n e a₀ s₀ s j a i → min e (length s₀ / 8) ≤ j → j < e → x ≡ w a → t ≡ over_at (8 * j) (word_bytes x) s → t ≡ bytes n (run w a₀ (e - n)) s₀
+      bytes_last {t} l m h f g =
+          let k = bytes_go l h f g in
           sym (bytes_past (a + 1) (e - (j + 1)) (j + 1) t (λ z. omega (arith, m, h, k.room))) ∙ k.left

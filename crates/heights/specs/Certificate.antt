@@ -164,28 +164,28 @@ module _ (C : List Word) (T : List Entry) (f : Entry) (law : Heights C T f) wher
     go k e y t g j m = reach i h p w a y t g j (subst (λ (x : Kind). Moves T i w.imm y x t g j) (sym e) m)
 
     -- Where it goes on both ways, the word is right.
-    right-from : (k : Kind) → kind w.op ≡ k
+    right_from : (k : Kind) → kind w.op ≡ k
         → (t g j : ℕ) → Moves T i w.imm Way.pass k t g j → (t g j : ℕ) → Moves T i w.imm Way.jump k t g j → Right T (Path C T f) i h w.imm k
-    right-from Kind.plain e t g j m _ _ _ _ = let (r, q, z) = go Kind.plain e Way.pass t g j m in to j (suc i) (r + g) h z (sym m.2) (omega arith)
-    right-from Kind.pushes e t g j m _ _ _ _ = let (r, q, z) = go Kind.pushes e Way.pass t g j m in to j (suc i) (r + g) (suc h) z (sym m.2) (omega arith)
-    right-from Kind.pops e t g j m _ _ _ _ = let (r, q, z) = go Kind.pops e Way.pass t g j m in (r, omega arith, to j (suc i) (r + g) r z (sym m.2) (omega arith))
-    right-from Kind.jumps e t g j m _ _ _ _ = let (r, q, z) = go Kind.jumps e Way.pass t g j m in (j, m.2, to j j (r + g) h z refl (omega arith))
-    right-from Kind.forks e t g j m t' g' j' m' =
+    right_from Kind.plain e t g j m _ _ _ _ = let (r, q, z) = go Kind.plain e Way.pass t g j m in to j (suc i) (r + g) h z (sym m.2) (omega arith)
+    right_from Kind.pushes e t g j m _ _ _ _ = let (r, q, z) = go Kind.pushes e Way.pass t g j m in to j (suc i) (r + g) (suc h) z (sym m.2) (omega arith)
+    right_from Kind.pops e t g j m _ _ _ _ = let (r, q, z) = go Kind.pops e Way.pass t g j m in (r, omega arith, to j (suc i) (r + g) r z (sym m.2) (omega arith))
+    right_from Kind.jumps e t g j m _ _ _ _ = let (r, q, z) = go Kind.jumps e Way.pass t g j m in (j, m.2, to j j (r + g) h z refl (omega arith))
+    right_from Kind.forks e t g j m t' g' j' m' =
         let (r, q, z) = go Kind.forks e Way.pass t g j m in let (r', q', z') = go Kind.forks e Way.jump t' g' j' m' in
         (j', m'.2, to j' j' (r' + g') h z' refl (omega arith), to j (suc i) (r + g) h z (sym m.2) (omega arith))
-    right-from Kind.calls e t g j m _ _ _ _ = let (r, q, z) = go Kind.calls e Way.pass t g j m in
+    right_from Kind.calls e t g j m _ _ _ _ = let (r, q, z) = go Kind.calls e Way.pass t g j m in
         (m.0, t, r, m.1, m.2, q, to j (suc i) (r + g) (suc r) z (sym m.4) (omega arith))
-    right-from Kind.ends e t g j m _ _ _ _ = absurd m
-    right-from Kind.stuck e t g j m _ _ _ _ = absurd m
+    right_from Kind.ends e t g j m _ _ _ _ = absurd m
+    right_from Kind.stuck e t g j m _ _ _ _ = absurd m
 
-    at-ret : w.op ≡ op.Ret → h ≡ 2 → Right T (Path C T f) i h w.imm (kind w.op)
-    at-ret e q = subst (λ (o : Opcode). Right T (Path C T f) i h w.imm (kind o)) (sym e) q
+    at_ret : w.op ≡ op.Ret → h ≡ 2 → Right T (Path C T f) i h w.imm (kind w.op)
+    at_ret e q = subst (λ (o : Opcode). Right T (Path C T f) i h w.imm (kind o)) (sym e) q
 
-    by-choice : Choice i h w Way.pass → Choice i h w Way.jump → Right T (Path C T f) i h w.imm (kind w.op)
+    by_choice : Choice i h w Way.pass → Choice i h w Way.jump → Right T (Path C T f) i h w.imm (kind w.op)
     unfolding Choice
-    by-choice (inl (e, q)) c = at-ret e q
-    by-choice (inr m) (inl (e, q)) = at-ret e q
-    by-choice (inr (t, g, j, m)) (inr (t', g', j', m')) = right-from (kind w.op) refl t g j m t' g' j' m'
+    by_choice (inl (e, q)) c = at_ret e q
+    by_choice (inr m) (inl (e, q)) = at_ret e q
+    by_choice (inr (t, g, j, m)) (inr (t', g', j', m')) = right_from (kind w.op) refl t g j m t' g' j' m'
 
   -- The law gives a certificate.
   pub certified_by_law : Certified C T f (Path C T f)
@@ -193,5 +193,5 @@ module _ (C : List Word) (T : List Entry) (f : Entry) (law : Heights C T f) wher
     inside = law.stays;
     single = λ i x y p q. law.one_height i x y p q;
     begins = start;
-    right = λ i x p. let (w, a, m) = law.stops i x p Way.pass in (w, a, by-choice i x p w a (choice i x p w a Way.pass) (choice i x p w a Way.jump));
+    right = λ i x p. let (w, a, m) = law.stops i x p Way.pass in (w, a, by_choice i x p w a (choice i x p w a Way.pass) (choice i x p w a Way.jump));
   }

@@ -12,7 +12,7 @@ use Rattle.rules.specs.Types.{Typ, Env}
 use Rattle.rules.specs.Refusal.{Res, ok, bad}
 use Rattle.rules.specs.Builtins.{Builtin, builtin, arity}
 use Rattle.rules.specs.Analyse.{sig, sig_of, repeated, Arg, Misfit, fits, fitted, applied, function_name, signature, expr, exprs, inits, stmt, stmts, function, functions, analyse}
-use Rattle.heights.specs.Fits.{size, Passes, Fits, Exprs-fit, Inits-fit, Stmt-fits, Stmts-fit}
+use Rattle.heights.specs.Fits.{size, Passes, Fits, ExprsFit, InitsFit, StmtFits, StmtsFit}
 use Rattle.bounds.specs.Answers.{All, all_ok, all_bad, all_bind, all_next, all_test, all_map}
 
 -- Of an answer of which nothing need be known.
@@ -31,7 +31,7 @@ takes_one fs x n m (f, p, q) (g, r, t) = sym q ∙ ap (λ (h : Function). length
 -- Of each body.
 unfoldable pub BodiesFit : (Name → ℕ → Type 0) → List Function → Type 0
 BodiesFit t [] = Unit {0}
-BodiesFit t (f ∷ fs) = Stmts-fit t f.body × BodiesFit t fs
+BodiesFit t (f ∷ fs) = StmtsFit t f.body × BodiesFit t fs
 
 length_repeated : (k : ℕ) → length (repeated k) ≡ k
 unfolding repeated
@@ -56,78 +56,78 @@ module _ (C : Contract) where
   takes = Takes C.functions
 
   mutual
-    unfolding expr exprs inits signature Fits Exprs-fit Inits-fit size
+    unfolding expr exprs inits signature Fits ExprsFit InitsFit size
 
-    expr-fits : (e : Expr) (Γ : Env) → All (λ (t : Typ). Fits takes e) (expr C e Γ)
-    expr-fits (Expr.no-expr p) Γ = all_ok _ tt
-    expr-fits (Expr.int p v) Γ = all_ok _ tt
-    expr-fits (Expr.ident p x) Γ = all_some _ (λ t. tt)
-    expr-fits (Expr.storage-read p x) Γ = all_ok _ tt
-    expr-fits (Expr.mapping-read p x e) Γ = all_bind (expr C e Γ) _ (expr-fits e Γ) (λ t q. all_ok _ q)
-    expr-fits (Expr.field-access p e x) Γ = all_bind (expr C e Γ) _ (expr-fits e Γ) (λ t q. all_some _ (λ u. q))
-    expr-fits (Expr.literal p x is) Γ = all_next _ _ (λ s. all_bind (inits C s is Γ) _ (inits-fit s is Γ) (λ t q. all_ok _ q))
-    expr-fits (Expr.binary p a o b) Γ =
-        all_bind (expr C a Γ) _ (expr-fits a Γ) (λ l pa.
-        all_bind (expr C b Γ) _ (expr-fits b Γ) (λ r pb.
+    expr_fits : (e : Expr) (Γ : Env) → All (λ (t : Typ). Fits takes e) (expr C e Γ)
+    expr_fits (Expr.no-expr p) Γ = all_ok _ tt
+    expr_fits (Expr.int p v) Γ = all_ok _ tt
+    expr_fits (Expr.ident p x) Γ = all_some _ (λ t. tt)
+    expr_fits (Expr.storage-read p x) Γ = all_ok _ tt
+    expr_fits (Expr.mapping-read p x e) Γ = all_bind (expr C e Γ) _ (expr_fits e Γ) (λ t q. all_ok _ q)
+    expr_fits (Expr.field-access p e x) Γ = all_bind (expr C e Γ) _ (expr_fits e Γ) (λ t q. all_some _ (λ u. q))
+    expr_fits (Expr.literal p x is) Γ = all_next _ _ (λ s. all_bind (inits C s is Γ) _ (inits_fit s is Γ) (λ t q. all_ok _ q))
+    expr_fits (Expr.binary p a o b) Γ =
+        all_bind (expr C a Γ) _ (expr_fits a Γ) (λ l pa.
+        all_bind (expr C b Γ) _ (expr_fits b Γ) (λ r pb.
         all_some _ (λ t. (pa, pb))))
-    expr-fits (Expr.call p f es) Γ =
-        all_bind (exprs C es Γ) _ (exprs-fit es Γ) (λ vs q.
+    expr_fits (Expr.call p f es) Γ =
+        all_bind (exprs C es Γ) _ (exprs_fit es Γ) (λ vs q.
         all_map (passed C.functions p f (length vs) _ (builtin f) _ refl) (λ t c. (subst (Passes takes (builtin f) f) q.1 c, q.0)))
 
-    exprs-fit : (es : Exprs) (Γ : Env) → All (λ (vs : List Arg). Exprs-fit takes es × (length vs ≡ size es)) (exprs C es Γ)
-    exprs-fit Exprs.none Γ = all_ok _ (tt, refl)
-    exprs-fit (Exprs.more e es) Γ =
-        all_bind (expr C e Γ) _ (expr-fits e Γ) (λ t p.
-        all_bind (exprs C es Γ) _ (exprs-fit es Γ) (λ vs q.
+    exprs_fit : (es : Exprs) (Γ : Env) → All (λ (vs : List Arg). ExprsFit takes es × (length vs ≡ size es)) (exprs C es Γ)
+    exprs_fit Exprs.none Γ = all_ok _ (tt, refl)
+    exprs_fit (Exprs.more e es) Γ =
+        all_bind (expr C e Γ) _ (expr_fits e Γ) (λ t p.
+        all_bind (exprs C es Γ) _ (exprs_fit es Γ) (λ vs q.
         all_ok _ ((p, q.0), ap suc q.1)))
 
-    inits-fit : (s : Struct) (is : Inits) (Γ : Env) → All (λ u. Inits-fit takes is) (inits C s is Γ)
-    inits-fit s Inits.no-init Γ = all_ok _ tt
-    inits-fit s (Inits.init p x e is) Γ =
-        all_bind (expr C e Γ) _ (expr-fits e Γ) (λ t q.
-        all_next _ _ (λ u. all_map (inits-fit s is Γ) (λ v r. (q, r))))
+    inits_fit : (s : Struct) (is : Inits) (Γ : Env) → All (λ u. InitsFit takes is) (inits C s is Γ)
+    inits_fit s Inits.no-init Γ = all_ok _ tt
+    inits_fit s (Inits.init p x e is) Γ =
+        all_bind (expr C e Γ) _ (expr_fits e Γ) (λ t q.
+        all_next _ _ (λ u. all_map (inits_fit s is Γ) (λ v r. (q, r))))
 
   module _ (ret : Typ) where
     mutual
-      unfolding stmt stmts Stmt-fits Stmts-fit
+      unfolding stmt stmts StmtFits StmtsFit
 
-      stmt-fits : (x : Stmt) (Γ : Env) → All (λ (Δ : Env). Stmt-fits takes x) (stmt C ret x Γ)
-      stmt-fits (Stmt.no-stmt p) Γ = all_ok _ tt
-      stmt-fits (Stmt.let-in p x e) Γ = all_bind (expr C e Γ) _ (expr-fits e Γ) (λ t q. all_ok _ q)
-      stmt-fits (Stmt.constrain p e) Γ = all_bind (expr C e Γ) _ (expr-fits e Γ) (λ t q. all_ok _ q)
-      stmt-fits (Stmt.assign p x e) Γ = all_next _ _ (λ a. all_bind (expr C e Γ) _ (expr-fits e Γ) (λ t q. all_some _ (λ u. q)))
-      stmt-fits (Stmt.storage-write p x e) Γ = all_bind (expr C e Γ) _ (expr-fits e Γ) (λ t q. all_ok _ q)
-      stmt-fits (Stmt.mapping-write p x e f) Γ =
-          all_bind (expr C e Γ) _ (expr-fits e Γ) (λ k pe.
-          all_bind (expr C f Γ) _ (expr-fits f Γ) (λ t pf.
+      stmt_fits : (x : Stmt) (Γ : Env) → All (λ (Δ : Env). StmtFits takes x) (stmt C ret x Γ)
+      stmt_fits (Stmt.no-stmt p) Γ = all_ok _ tt
+      stmt_fits (Stmt.let-in p x e) Γ = all_bind (expr C e Γ) _ (expr_fits e Γ) (λ t q. all_ok _ q)
+      stmt_fits (Stmt.constrain p e) Γ = all_bind (expr C e Γ) _ (expr_fits e Γ) (λ t q. all_ok _ q)
+      stmt_fits (Stmt.assign p x e) Γ = all_next _ _ (λ a. all_bind (expr C e Γ) _ (expr_fits e Γ) (λ t q. all_some _ (λ u. q)))
+      stmt_fits (Stmt.storage-write p x e) Γ = all_bind (expr C e Γ) _ (expr_fits e Γ) (λ t q. all_ok _ q)
+      stmt_fits (Stmt.mapping-write p x e f) Γ =
+          all_bind (expr C e Γ) _ (expr_fits e Γ) (λ k pe.
+          all_bind (expr C f Γ) _ (expr_fits f Γ) (λ t pf.
           all_ok _ (pe, pf)))
-      stmt-fits (Stmt.if-else p c t e) Γ =
-          all_bind (expr C c Γ) _ (expr-fits c Γ) (λ k pc.
-          all_bind (stmts C ret t Γ) _ (stmts-fit t Γ) (λ Δ pt.
-          all_map (stmts-fit e Δ) (λ u pe. (pc, pt, pe))))
-      stmt-fits (Stmt.while p c b) Γ =
-          all_bind (expr C c Γ) _ (expr-fits c Γ) (λ k pc.
-          all_map (stmts-fit b Γ) (λ u pb. (pc, pb)))
-      stmt-fits (Stmt.for p x e f b) Γ =
-          all_bind (expr C e Γ) _ (expr-fits e Γ) (λ k pe.
-          all_bind (expr C f Γ) _ (expr-fits f Γ) (λ t pf.
-          all_bind (stmts C ret b _) _ (stmts-fit b _) (λ Δ pb.
+      stmt_fits (Stmt.if-else p c t e) Γ =
+          all_bind (expr C c Γ) _ (expr_fits c Γ) (λ k pc.
+          all_bind (stmts C ret t Γ) _ (stmts_fit t Γ) (λ Δ pt.
+          all_map (stmts_fit e Δ) (λ u pe. (pc, pt, pe))))
+      stmt_fits (Stmt.while p c b) Γ =
+          all_bind (expr C c Γ) _ (expr_fits c Γ) (λ k pc.
+          all_map (stmts_fit b Γ) (λ u pb. (pc, pb)))
+      stmt_fits (Stmt.for p x e f b) Γ =
+          all_bind (expr C e Γ) _ (expr_fits e Γ) (λ k pe.
+          all_bind (expr C f Γ) _ (expr_fits f Γ) (λ t pf.
+          all_bind (stmts C ret b _) _ (stmts_fit b _) (λ Δ pb.
           all_ok _ (pe, pf, pb))))
-      stmt-fits (Stmt.return p e) Γ = all_bind (expr C e Γ) _ (expr-fits e Γ) (λ t q. all_some _ (λ u. q))
-      stmt-fits (Stmt.return-none p) Γ = all_some _ (λ u. tt)
-      stmt-fits (Stmt.emits p x es) Γ = all_bind (exprs C es Γ) _ (exprs-fit es Γ) (λ vs q. all_ok _ q.0)
-      stmt-fits (Stmt.just p e) Γ = all_bind (expr C e Γ) _ (expr-fits e Γ) (λ t q. all_ok _ q)
+      stmt_fits (Stmt.return p e) Γ = all_bind (expr C e Γ) _ (expr_fits e Γ) (λ t q. all_some _ (λ u. q))
+      stmt_fits (Stmt.return-none p) Γ = all_some _ (λ u. tt)
+      stmt_fits (Stmt.emits p x es) Γ = all_bind (exprs C es Γ) _ (exprs_fit es Γ) (λ vs q. all_ok _ q.0)
+      stmt_fits (Stmt.just p e) Γ = all_bind (expr C e Γ) _ (expr_fits e Γ) (λ t q. all_ok _ q)
 
-      stmts-fit : (xs : Stmts) (Γ : Env) → All (λ (Δ : Env). Stmts-fit takes xs) (stmts C ret xs Γ)
-      stmts-fit Stmts.none Γ = all_ok _ tt
-      stmts-fit (Stmts.more x xs) Γ = all_bind (stmt C ret x Γ) _ (stmt-fits x Γ) (λ Δ px. all_map (stmts-fit xs Δ) (λ u pxs. (px, pxs)))
+      stmts_fit : (xs : Stmts) (Γ : Env) → All (λ (Δ : Env). StmtsFit takes xs) (stmts C ret xs Γ)
+      stmts_fit Stmts.none Γ = all_ok _ tt
+      stmts_fit (Stmts.more x xs) Γ = all_bind (stmt C ret x Γ) _ (stmt_fits x Γ) (λ Δ px. all_map (stmts_fit xs Δ) (λ u pxs. (px, pxs)))
 
   -- Function by function.
   bodies_fit : (fs : List Function) → All (λ u. BodiesFit takes fs) (functions C fs)
   unfolding functions function BodiesFit
   bodies_fit [] = all_ok _ tt
   bodies_fit (f ∷ fs) =
-      all_bind (function C f) _ (all_bind (stmts C _ f.body _) _ (stmts-fit _ f.body _) (λ Γ q. all_ok _ q)) (λ u q.
+      all_bind (function C f) _ (all_bind (stmts C _ f.body _) _ (stmts_fit _ f.body _) (λ Γ q. all_ok _ q)) (λ u q.
       all_map (bodies_fit fs) (λ v r. (q, r)))
 
 -- 001 passed: each call in each body passes what its function takes.

@@ -26,34 +26,34 @@ module _ (takes : Name → ℕ → Type 0) where
     Fits (Expr.storage-read p x) = Unit {0}
     Fits (Expr.mapping-read p x e) = Fits e
     Fits (Expr.field-access p e x) = Fits e
-    Fits (Expr.literal p x is) = Inits-fit is
+    Fits (Expr.literal p x is) = InitsFit is
     Fits (Expr.binary p a o b) = Fits a × Fits b
-    Fits (Expr.call p f es) = Passes (builtin f) f (size es) × Exprs-fit es
+    Fits (Expr.call p f es) = Passes (builtin f) f (size es) × ExprsFit es
 
-    pub Exprs-fit : Exprs → Type 0
-    Exprs-fit Exprs.none = Unit {0}
-    Exprs-fit (Exprs.more e es) = Fits e × Exprs-fit es
+    pub ExprsFit : Exprs → Type 0
+    ExprsFit Exprs.none = Unit {0}
+    ExprsFit (Exprs.more e es) = Fits e × ExprsFit es
 
-    pub Inits-fit : Inits → Type 0
-    Inits-fit Inits.no-init = Unit {0}
-    Inits-fit (Inits.init p x e is) = Fits e × Inits-fit is
+    pub InitsFit : Inits → Type 0
+    InitsFit Inits.no-init = Unit {0}
+    InitsFit (Inits.init p x e is) = Fits e × InitsFit is
 
   unfoldable mutual
-    pub Stmt-fits : Stmt → Type 0
-    Stmt-fits (Stmt.no-stmt p) = Unit {0}
-    Stmt-fits (Stmt.let-in p x e) = Fits e
-    Stmt-fits (Stmt.constrain p e) = Fits e
-    Stmt-fits (Stmt.assign p x e) = Fits e
-    Stmt-fits (Stmt.storage-write p x e) = Fits e
-    Stmt-fits (Stmt.mapping-write p x e f) = Fits e × Fits f
-    Stmt-fits (Stmt.if-else p c t e) = Fits c × Stmts-fit t × Stmts-fit e
-    Stmt-fits (Stmt.while p c b) = Fits c × Stmts-fit b
-    Stmt-fits (Stmt.for p x e f b) = Fits e × Fits f × Stmts-fit b
-    Stmt-fits (Stmt.return p e) = Fits e
-    Stmt-fits (Stmt.return-none p) = Unit {0}
-    Stmt-fits (Stmt.emits p x es) = Exprs-fit es
-    Stmt-fits (Stmt.just p e) = Fits e
+    pub StmtFits : Stmt → Type 0
+    StmtFits (Stmt.no-stmt p) = Unit {0}
+    StmtFits (Stmt.let-in p x e) = Fits e
+    StmtFits (Stmt.constrain p e) = Fits e
+    StmtFits (Stmt.assign p x e) = Fits e
+    StmtFits (Stmt.storage-write p x e) = Fits e
+    StmtFits (Stmt.mapping-write p x e f) = Fits e × Fits f
+    StmtFits (Stmt.if-else p c t e) = Fits c × StmtsFit t × StmtsFit e
+    StmtFits (Stmt.while p c b) = Fits c × StmtsFit b
+    StmtFits (Stmt.for p x e f b) = Fits e × Fits f × StmtsFit b
+    StmtFits (Stmt.return p e) = Fits e
+    StmtFits (Stmt.return-none p) = Unit {0}
+    StmtFits (Stmt.emits p x es) = ExprsFit es
+    StmtFits (Stmt.just p e) = Fits e
 
-    pub Stmts-fit : Stmts → Type 0
-    Stmts-fit Stmts.none = Unit {0}
-    Stmts-fit (Stmts.more x xs) = Stmt-fits x × Stmts-fit xs
+    pub StmtsFit : Stmts → Type 0
+    StmtsFit Stmts.none = Unit {0}
+    StmtsFit (Stmts.more x xs) = StmtFits x × StmtsFit xs

@@ -18,7 +18,7 @@ use Rattle.rules.specs.Link.{distance, patch, link}
 use Rattle.heights.specs.Positions.{Stands}
 use Rattle.heights.specs.Certificate.{Right, Certified, only_ret}
 use Rattle.heights.specs.Law.{Stopped, Home}
-use Rattle.heights.specs.Segment.{Reading, Flow, flow, flow_of, Place, Noted, tops, Holds, Goes, Sounds, Leads, Run, enter, onward, Leaves, Piece, noted, goes-up}
+use Rattle.heights.specs.Segment.{Reading, Flow, flow, flow_of, Place, Noted, tops, Holds, Goes, Sounds, Leads, Run, enter, onward, Leaves, Piece, noted, goes_up}
 use Rattle.heights.specs.Level.{height, CanHeight, StepHeight}
 use Rattle.heights.specs.Checks.{Takes}
 use Rattle.heights.specs.Placed.{at_link, lands_less, last_at, entry_name, Mirrors, by_table}
@@ -71,10 +71,10 @@ module _ (fs : List Function) (T : List Entry) (mirrors : Mirrors fs T) where
   -- A call lands on the first word of a function that takes what was passed.
   called : (i n : ℕ) (f : Name) → Takes fs f n → (e : ℕ) × Lands i (distance (last entry_name f T) i) e × Starts T e n
   unfolding distance
-  called i n f t = to-entry (by_table fs T mirrors f n t)
+  called i n f t = to_entry (by_table fs T mirrors f n t)
     where
-      to-entry : (g : Entry) × (last entry_name f T ≡ some g) × (g.params ≡ n) → (e : ℕ) × Lands i (distance (last entry_name f T) i) e × Starts T e n
-      to-entry (g, u, v) = (
+      to_entry : (g : Entry) × (last entry_name f T ≡ some g) × (g.params ≡ n) → (e : ℕ) × Lands i (distance (last entry_name f T) i) e × Starts T e n
+      to_entry (g, u, v) = (
         g.first,
         subst (λ (o : Option Entry). Lands i (distance o i) g.first) (sym u) (lands_less i g.first),
         ((last_at entry_name f T g u).0, g, (last_at entry_name f T g u).1, refl, v),
@@ -124,16 +124,16 @@ module _ (fs : List Function) (T : List Entry) (mirrors : Mirrors fs T) where
     Map i x = (j : ℕ) × (i ≡ e.first + j) × Holds M (tops M piece.notes []) j x
 
     -- Each word that the map has is right.
-    right-at : (j x : ℕ) → Holds M (tops M piece.notes []) j x → (w : Word) × At (link T 0 whole) (e.first + j) w × Right T Map (e.first + j) x w.imm (kind w.op)
+    right_at : (j x : ℕ) → Holds M (tops M piece.notes []) j x → (w : Word) × At (link T 0 whole) (e.first + j) w × Right T Map (e.first + j) x w.imm (kind w.op)
     unfolding Map
-    right-at j x a = judge (sound_at M (Holds M (tops M piece.notes [])) [] 0 j piece.notes piece.sound j x (short M piece.notes j x a) a (omega arith))
+    right_at j x a = judge (sound_at M (Holds M (tops M piece.notes [])) [] 0 j piece.notes piece.sound j x (short M piece.notes j x a) a (omega arith))
       where
         judge : (o : Open) × At (map (λ (p : Noted M). p.1) piece.notes) j o × Goes M (Holds M (tops M piece.notes [])) j x o (flow o)
             → (w : Word) × At (link T 0 whole) (e.first + j) w × Right T Map (e.first + j) x w.imm (kind w.op)
         judge (o, p, s) = (
           patch T (e.first + j) o,
           at_link T 0 whole (e.first + j) (e.first + j) o (omega arith) (up j o (subst (λ (l : List Open). At l j o) piece.words p)),
-          patched Map (e.first + j) x o (goes-up M (Holds M (tops M piece.notes [])) Map e.first (λ i k y h q. (i, q, h)) j (e.first + j) x o (flow o) refl s),
+          patched Map (e.first + j) x o (goes_up M (Holds M (tops M piece.notes [])) Map e.first (λ i k y h q. (i, q, h)) j (e.first + j) x o (flow o) refl s),
         )
 
     -- The map is a certificate.
@@ -143,7 +143,7 @@ module _ (fs : List Function) (T : List Entry) (mirrors : Mirrors fs T) where
       inside = λ i x h. inside i x h;
       single = λ i x y h g. single_note (Takes fs) (tops M piece.notes []) h.0 x y h.2 (subst (λ (j : ℕ). Holds M (tops M piece.notes []) j y) (same i x y h g) g.2);
       begins = (0, omega arith, piece.begins (suc e.params) refl);
-      right = λ i x h. subst (λ (n : ℕ). (w : Word) × At (link T 0 whole) n w × Right T Map n x w.imm (kind w.op)) (sym h.1) (right-at h.0 x h.2);
+      right = λ i x h. subst (λ (n : ℕ). (w : Word) × At (link T 0 whole) n w × Right T Map n x w.imm (kind w.op)) (sym h.1) (right_at h.0 x h.2);
     }
       where
         inside : (i x : ℕ) → Map i x → (e.first ≤ i) × (i < e.past)
@@ -165,10 +165,10 @@ module _ (fs : List Function) (T : List Entry) (mirrors : Mirrors fs T) where
     unfolding Home Stopped patch
     comes_home = ended (piece.leaves whole e.first up (suc e.params) refl)
       where
-        at-end : (j : ℕ) (o : Open) → flow o ≡ Flow.ends → At whole j o → Path (link T 0 whole) T e j 2 → Home (link T 0 whole) T e
-        at-end j (word p b w) q a r = (j, (w, at_link T 0 whole j j (word p b w) (omega arith) a, only_ret w.op (ends_only (kind w.op) w.imm q), refl), r)
-        at-end j (calls p f) q a r = absurd (let z : ◌≡◌ {A = ℕ} 0 1 = cc in omega arith)
+        at_end : (j : ℕ) (o : Open) → flow o ≡ Flow.ends → At whole j o → Path (link T 0 whole) T e j 2 → Home (link T 0 whole) T e
+        at_end j (word p b w) q a r = (j, (w, at_link T 0 whole j j (word p b w) (omega arith) a, only_ret w.op (ends_only (kind w.op) w.imm q), refl), r)
+        at_end j (calls p f) q a r = absurd (let z : ◌≡◌ {A = ℕ} 0 1 = cc in omega arith)
 
         ended : Leaves M whole e.first (suc e.params) (e.first + length c) [] → Home (link T 0 whole) T e
         ended (j, t, r, inl (q, h)) = absurd h
-        ended (j, t, r, inr (o, a, f, h)) = at-end j o f a (subst (Path (link T 0 whole) T e j) h (walked r))
+        ended (j, t, r, inr (o, a, f, h)) = at_end j o f a (subst (Path (link T 0 whole) T e j) h (walked r))

@@ -18,7 +18,7 @@ use Rattle.rules.specs.Generate.{function}
 use Rattle.rules.specs.Link.{Built, functions, less, patch, link}
 use Rattle.heights.specs.Positions.{Stands, stands_left, stands_right}
 use Rattle.heights.specs.Entries.{Covers}
-use Rattle.heights.specs.Fits.{Stmts-fit}
+use Rattle.heights.specs.Fits.{StmtsFit}
 use Rattle.bounds.specs.Answers.{All, all_ok, all_bind}
 use Rattle.heights.specs.Checks.{Takes, BodiesFit}
 
@@ -158,7 +158,7 @@ module _ (Good : List Open → ℕ → Type 0) where
 
   -- The functions of a contract are laid so, with their table.
   pub functions_laid : (takes : Name → ℕ → Type 0) (R : Rules) (C : Contract)
-      → ((f : Function) → Stmts-fit takes f.body → All (λ (c : List Open). Good c (length f.params)) (function R C f))
+      → ((f : Function) → StmtsFit takes f.body → All (λ (c : List Open). Good c (length f.params)) (function R C f))
       → (i : ℕ) (fs : List Function) → BodiesFit takes fs → All (λ (b : Built). Laid i b.code b.table × Mirrors fs b.table) (functions R C i fs)
   unfolding functions Laid Mirrors BodiesFit
   functions_laid t R C g i [] q = all_ok _ (refl, tt)

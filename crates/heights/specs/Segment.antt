@@ -146,16 +146,16 @@ module _ (M : Reading) where
 
   module _ (H H' : Place) (d : ℕ) (up : (j k : ℕ) (s : M.State) → H j s → k ≡ d + j → H' k s) where
     -- A piece is right wherever it comes to stand.
-    pub goes-up : (i k : ℕ) (s : M.State) (o : Open) (f : Flow) → k ≡ d + i → Goes H i s o f → Goes H' k s o f
-    goes-up i k s o on e r = (r.0, λ t q. up (suc i) (suc k) t (r.1 t q) (omega arith))
-    goes-up i k s o (jumps n) e r = (d + r.0, lands_up i r.0 n d k e r.1, up r.0 (d + r.0) s r.2 refl)
-    goes-up i k s o (forks n) e r = (d + r.0, lands_up i r.0 n d k e r.1, up r.0 (d + r.0) s r.2 refl, up (suc i) (suc k) s r.3 (omega arith))
-    goes-up i k s o ends e r = r
-    goes-up i k s o stuck e r = r
+    pub goes_up : (i k : ℕ) (s : M.State) (o : Open) (f : Flow) → k ≡ d + i → Goes H i s o f → Goes H' k s o f
+    goes_up i k s o on e r = (r.0, λ t q. up (suc i) (suc k) t (r.1 t q) (omega arith))
+    goes_up i k s o (jumps n) e r = (d + r.0, lands_up i r.0 n d k e r.1, up r.0 (d + r.0) s r.2 refl)
+    goes_up i k s o (forks n) e r = (d + r.0, lands_up i r.0 n d k e r.1, up r.0 (d + r.0) s r.2 refl, up (suc i) (suc k) s r.3 (omega arith))
+    goes_up i k s o ends e r = r
+    goes_up i k s o stuck e r = r
 
-    pub sounds-up : (i k : ℕ) (m : List Noted) → k ≡ d + i → Sounds H i m → Sounds H' k m
-    sounds-up i k [] e r = tt
-    sounds-up i k (p ∷ m) e r = (λ s q. goes-up i k s p.1 (flow p.1) e (r.0 s q), sounds-up (suc i) (suc k) m (omega arith) r.1)
+    pub sounds_up : (i k : ℕ) (m : List Noted) → k ≡ d + i → Sounds H i m → Sounds H' k m
+    sounds_up i k [] e r = tt
+    sounds_up i k (p ∷ m) e r = (λ s q. goes_up i k s p.1 (flow p.1) e (r.0 s q), sounds_up (suc i) (suc k) m (omega arith) r.1)
 
   -- Two pieces in a row.
   pub sounds_append : (H : Place) (i k : ℕ) (m n : List Noted) → Sounds H i m → k ≡ length m + i → Sounds H k n → Sounds H i (m ++ n)
@@ -189,10 +189,10 @@ module _ (M : Reading) where
       H = Holds (tops m (tops n es))
 
       first : Sounds H 0 m
-      first = sounds-up (Holds (tops m (b ∷ []))) H 0 (λ j k y h e. move H j k y (glue m b (tops n es) q.begins j y h) (omega arith)) 0 0 m (omega arith) p.sound
+      first = sounds_up (Holds (tops m (b ∷ []))) H 0 (λ j k y h e. move H j k y (glue m b (tops n es) q.begins j y h) (omega arith)) 0 0 m (omega arith) p.sound
 
       second : Sounds H (length m) n
-      second = sounds-up (Holds (tops n es)) H (length m) (λ j k y h e. beyond m (tops n es) j y k h e) 0 (length m) n (omega arith) q.sound
+      second = sounds_up (Holds (tops n es)) H (length m) (λ j k y h e. beyond m (tops n es) j y k h e) 0 (length m) n (omega arith) q.sound
 
   -- Nothing: what is known may be forgotten.
   pub empty : (a b : M.Note) → ((s : M.State) → M.Means a s → M.Means b s) → Piece [] a (b ∷ [])

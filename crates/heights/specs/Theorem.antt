@@ -22,10 +22,10 @@ use Rattle.heights.specs.Certificate.{heights}
 use Rattle.heights.specs.Law.{Home}
 use Rattle.heights.specs.Segment.{Piece, noted}
 use Rattle.heights.specs.Level.{height}
-use Rattle.heights.specs.Fits.{Stmts-fit}
+use Rattle.heights.specs.Fits.{StmtsFit}
 use Rattle.bounds.specs.Answers.{All, all_ok, all_bad, all_bind, all_next, all_map, from_ok}
 use Rattle.heights.specs.Checks.{Takes, takes_one, BodiesFit, analysis_fits}
-use Rattle.heights.specs.Pieces.{function-closed}
+use Rattle.heights.specs.Pieces.{function_closed}
 use Rattle.heights.specs.Placed.{length_link, Mirrors, Laid, covers, Housed, housed, functions_laid, mirrors_length}
 use Rattle.heights.specs.Judged.{short, Map, certified, comes_home}
 
@@ -90,8 +90,8 @@ generated R C q = with (last function_name main fs)
     fs : List Function
     fs = C.functions
 
-    closed : (f : Function) → Stmts-fit (Takes fs) f.body → All (λ (c : List Open). Good fs c (length f.params)) (function R C f)
-    closed f p = function-closed (Takes fs) (takes_one fs) R C f p
+    closed : (f : Function) → StmtsFit (Takes fs) f.body → All (λ (c : List Open). Good fs c (length f.params)) (function R C f)
+    closed f p = function_closed (Takes fs) (takes_one fs) R C f p
 
     with : (o : Option Function) → All (Obeys fs) (with_main o (functions R C 3 fs >>= λ b. ok (record { words = link b.table 0 (opening R ++ b.code); table = b.table })))
     with none = all_bad _

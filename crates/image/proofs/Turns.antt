@@ -140,32 +140,32 @@ module _ (s : List ℕ) (from end levels d₀ k₀ vars p left w n : ℕ) (W : W
     on : ended (due_at W.d W.kind W.k) p end ≡ false
     on = subst (λ (x : ℕ). ended x p end ≡ false) due_is going
 
-    walk-left : w % 32 ≡ 0 → parts_in levels s from end d₀ k₀ vars ≡ Fault 4 p
-    walk-left z = W.same ∙ parts_left (record_of left) s p end W.d W.kind W.k n W.fuel W.enough on (sym due_is ∙ z)
+    walk_left : w % 32 ≡ 0 → parts_in levels s from end d₀ k₀ vars ≡ Fault 4 p
+    walk_left z = W.same ∙ parts_left (record_of left) s p end W.d W.kind W.k n W.fuel W.enough on (sym due_is ∙ z)
 
     -- A fault where something is due is 4 where nothing is.
-    pub walk-told : (number : ℕ) → 0 < number → p < 4294967296 → ((w % 32 ≡ 0 → ⊥) → parts_in levels s from end d₀ k₀ vars ≡ Fault number p) → Told end (parts_in levels s from end d₀ k₀ vars) (fault_of (w % 32) number p)
+    pub walk_told : (number : ℕ) → 0 < number → p < 4294967296 → ((w % 32 ≡ 0 → ⊥) → parts_in levels s from end d₀ k₀ vars ≡ Fault number p) → Told end (parts_in levels s from end d₀ k₀ vars) (fault_of (w % 32) number p)
     unfolding fault_of pick
-    walk-told number h l f = go (eqb (w % 32) 0) refl
+    walk_told number h l f = go (eqb (w % 32) 0) refl
       where
         go : (b : Bool) → eqb (w % 32) 0 ≡ b → Told end (parts_in levels s from end d₀ k₀ vars) (pick b 4 number * 4294967296 + p)
-        go true e = told_fault end 4 p _ (walk-left (eqb-true (w % 32) 0 e)) (omega arith) l
+        go true e = told_fault end 4 p _ (walk_left (eqb-true (w % 32) 0 e)) (omega arith) l
         go false e = told_fault end number p _ (f (eqb-false (w % 32) 0 e)) h l
 
     module _ (some : w % 32 ≡ 0 → ⊥) where
-      pub walk-fault : (number place : ℕ) → record_of left s p end (w % 32) W.k n ≡ Fault number place → parts_in levels s from end d₀ k₀ vars ≡ Fault number place
-      walk-fault number place e =
+      pub walk_fault : (number place : ℕ) → record_of left s p end (w % 32) W.k n ≡ Fault number place → parts_in levels s from end d₀ k₀ vars ≡ Fault number place
+      walk_fault number place e =
           W.same ∙ parts_fault (record_of left) s p end W.d W.kind W.k n W.fuel W.enough on (λ z. some (due_is ∙ z)) number place
           (subst (λ (x : ℕ). record_of left s p end x W.k n ≡ Fault number place) due_is e)
 
       pub walk_refused : (number : ℕ) → refusal_of (header_of s p end left (w % 32) W.k n) ≡ suc number → parts_in levels s from end d₀ k₀ vars ≡ Fault (suc number) p
       walk_refused number e =
-          walk-fault (suc number) p
+          walk_fault (suc number) p
           (record_refused s p end (w % 32) W.k n left (λ y. let z = sym e ∙ y in omega arith) ∙ ap (λ (x : ℕ). Fault x p) e)
 
       module _ (free : full (w % 32) w ≡ false) where
-        next-is : further (w % 32) w ≡ dues_of W.d W.kind (W.k + 1)
-        next-is =
+        next_is : further (w % 32) w ≡ dues_of W.d W.kind (W.k + 1)
+        next_is =
             ap (λ (x : ℕ). further x w) due_is ∙ ap (further (due_at W.d W.kind W.k)) W.state
             ∙ due_rest W.d W.kind W.k (λ z. some (due_is ∙ z))
             (subst (λ (x : ℕ). full (due_at W.d W.kind W.k) x ≡ false) W.state (subst (λ (x : ℕ). full x w ≡ false) due_is free))
@@ -181,25 +181,25 @@ module _ (s : List ℕ) (from end levels d₀ k₀ vars p left w n : ℕ) (W : W
               same =
                   W.same ∙ parts_more (record_of left) s p end W.d W.kind W.k n W.fuel W.enough on (λ z. some (due_is ∙ z)) q m
                   (subst (λ (x : ℕ). record_of left s p end x W.k n ≡ Sound q m) due_is e);
-              state = next-is;
+              state = next_is;
               low = omega (arith, W.low);
             }
 
         -- Where the part is the last, and ends where the record does, it is what is left.
-        pub walk-tail : (y : Seen) → record_of left s p end (w % 32) W.k n ≡ y → Reaches end y → p < end → ended (further (w % 32) w % 32) end end ≡ true → parts_in levels s from end d₀ k₀ vars ≡ y
-        walk-tail y e r l f =
+        pub walk_tail : (y : Seen) → record_of left s p end (w % 32) W.k n ≡ y → Reaches end y → p < end → ended (further (w % 32) w % 32) end end ≡ true → parts_in levels s from end d₀ k₀ vars ≡ y
+        walk_tail y e r l f =
             let i = W.k + 1 in
             W.same ∙ parts_then (record_of left) s p end W.d W.kind W.k n W.fuel W.enough on (λ z. some (due_is ∙ z))
             ∙ ap (λ (x : Seen). and_then x (λ q m. children_of (record_of left) (W.fuel - 1) s q end W.d W.kind i m))
             (subst (λ (x : ℕ). record_of left s p end x W.k n ≡ y) due_is e)
             ∙ tail_is end y (λ q m. children_of (record_of left) (W.fuel - 1) s q end W.d W.kind i m) r
             (λ m. parts_ended (record_of left) s end end W.d W.kind i m (W.fuel - 1) (omega (arith, W.enough))
-            (subst (λ (x : ℕ). ended x end end ≡ true) (ap (λ (x : ℕ). x % 32) next-is ∙ due_first W.d W.kind i) f))
+            (subst (λ (x : ℕ). ended x end end ≡ true) (ap (λ (x : ℕ). x % 32) next_is ∙ due_first W.d W.kind i) f))
 
   -- The header, by the code's tests.
   module _ (t : List ℕ) (R : Right t) (bound : end ≤ 65536) (room : 6 ≤ end - p) (some : w % 32 ≡ 0 → ⊥) where
-    stands-is : undue (w % 32) (kind_at s p) ≡ off t (w % 32) (kind_at s p)
-    stands-is = sym (R.stands (w % 32) (kind_at s p) due_low ∙ rw (ne_eqb (w % 32) 0 some) refl)
+    stands_is : undue (w % 32) (kind_at s p) ≡ off t (w % 32) (kind_at s p)
+    stands_is = sym (R.stands (w % 32) (kind_at s p) due_low ∙ rw (ne_eqb (w % 32) 0 some) refl)
 
     full_is : leb (class_of (w % 32)).most W.k ≡ full (w % 32) w
     full_is =
@@ -213,4 +213,4 @@ module _ (s : List ℕ) (from end levels d₀ k₀ vars p left w n : ℕ) (W : W
 
     pub header_is : refusal_of (header_of s p end left (w % 32) W.k n) ≡ first_with (short (le32 s p) (end - p)) (eqb left 0) (off t (w % 32) (kind_at s p)) (full (w % 32) w or counts (w % 32) (kind_at s p) and leb 512 n) (not (own_of s (p + 6) (end_at s p) (kind_at s p)))
     unfolding refusal_of header_of crowded
-    header_is = rw (frame_is, stands-is, full_is) refl
+    header_is = rw (frame_is, stands_is, full_is) refl

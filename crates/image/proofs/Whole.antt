@@ -35,39 +35,39 @@ module _ (s : List ℕ) where
     unfolding pick check_of
     whole_is a e = rw (le-ltb 65536 (length s) h, e)
 
-    check-refused : (number : ℕ) → refusal_of (header_of s 0 (length s) 64 Contract 0 0) ≡ suc number → Fault (suc number) 0 ≡ check_of s
+    check_refused : (number : ℕ) → refusal_of (header_of s 0 (length s) 64 Contract 0 0) ≡ suc number → Fault (suc number) 0 ≡ check_of s
     unfolding whole_of
-    check-refused number e =
+    check_refused number e =
         ap (λ (x : ℕ). Fault x 0) (sym e) ∙ whole_is _ (record_refused s 0 (length s) Contract 0 0 64 (λ y. let z = sym e ∙ y in omega arith))
 
-    pub check-unframed : unframed s 0 (length s) ≡ true → Fault 2 0 ≡ check_of s
-    check-unframed f = check-refused 1 (refuse_2 s 0 (length s) 64 Contract 0 0 f)
+    pub check_unframed : unframed s 0 (length s) ≡ true → Fault 2 0 ≡ check_of s
+    check_unframed f = check_refused 1 (refuse_2 s 0 (length s) 64 Contract 0 0 f)
 
     -- Where the Contract is due, its kind alone decides of a framed header.
     module _ (f : unframed s 0 (length s) ≡ false) where
-      pub check-other : (kind_at s 0 ≡ 16 → ⊥) → Fault 3 0 ≡ check_of s
+      pub check_other : (kind_at s 0 ≡ 16 → ⊥) → Fault 3 0 ≡ check_of s
       unfolding undue class_of
-      check-other z = check-refused 2 (refuse_3 s 0 (length s) 64 Contract 0 0 f refl (apart (kind_at s 0) 16 z))
+      check_other z = check_refused 2 (refuse_3 s 0 (length s) 64 Contract 0 0 f refl (apart (kind_at s 0) 16 z))
 
     module _ (f : unframed s 0 (length s) ≡ false) (k : kind_at s 0 ≡ 16) where
       none : refusal_of (header_of s 0 (length s) 64 Contract 0 0) ≡ 0
       unfolding pick undue class_of crowded counts own_of
       none = refuse_0 s 0 (length s) 64 Contract 0 0 f refl (rw k refl) (rw k refl) (rw k refl)
 
-      contract-parts : record_of 64 s 0 (length s) Contract 0 0 ≡ parts_in 63 s 6 (4 + le32 s 0) Contract 16 0
+      contract_parts : record_of 64 s 0 (length s) Contract 0 0 ≡ parts_in 63 s 6 (4 + le32 s 0) Contract 16 0
       unfolding pick leaf vars_in_lem counts
-      contract-parts = part_open s 0 (length s) Contract 0 0 64 none (ap leaf k) ∙ rw k refl
+      contract_parts = part_open s 0 (length s) Contract 0 0 64 none (ap leaf k) ∙ rw k refl
 
-      pub check-fault : (number place : ℕ) → parts_in 63 s 6 (4 + le32 s 0) Contract 16 0 ≡ Fault number place → Fault number place ≡ check_of s
+      pub check_fault : (number place : ℕ) → parts_in 63 s 6 (4 + le32 s 0) Contract 16 0 ≡ Fault number place → Fault number place ≡ check_of s
       unfolding whole_of
-      check-fault number place g = whole_is _ (contract-parts ∙ g)
+      check_fault number place g = whole_is _ (contract_parts ∙ g)
 
       module _ (q m : ℕ) (g : parts_in 63 s 6 (4 + le32 s 0) Contract 16 0 ≡ Sound q m) (z : q ≡ 4 + le32 s 0) where
         ends : record_of 64 s 0 (length s) Contract 0 0 ≡ Sound (4 + le32 s 0) m
-        ends = contract-parts ∙ g ∙ ap (λ (x : ℕ). Sound x m) z
+        ends = contract_parts ∙ g ∙ ap (λ (x : ℕ). Sound x m) z
 
-        pub check-left : 4 + le32 s 0 < length s → Fault 4 (4 + le32 s 0) ≡ check_of s
-        check-left l = sym (left_whole (4 + le32 s 0) m l) ∙ whole_is _ ends
+        pub check_left : 4 + le32 s 0 < length s → Fault 4 (4 + le32 s 0) ≡ check_of s
+        check_left l = sym (left_whole (4 + le32 s 0) m l) ∙ whole_is _ ends
 
         pub check_sound : length s ≤ 4 + le32 s 0 → Sound (4 + le32 s 0) m ≡ check_of s
         check_sound l = sym (no_more_whole (4 + le32 s 0) m l) ∙ whole_is _ ends

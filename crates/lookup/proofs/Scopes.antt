@@ -60,15 +60,15 @@ module _ (img env : List ℕ) where
   env_none (suc (suc k)) h = absurd (omega arith)
 
   module _ (x : Name) (k : ℕ) where
-    pub find-hit : 2 ≤ k → get_or env (k - 2) 0 ≡ key_of x → eq_name (name_at img (place_in (get_or env (k - 2 + 1) 0))) x ≡ true
+    pub find_hit : 2 ≤ k → get_or env (k - 2) 0 ≡ key_of x → eq_name (name_at img (place_in (get_or env (k - 2 + 1) 0))) x ≡ true
         → find x (env_of img env k) ≡ some (type_beside img (get_or env (k - 2 + 1) 0))
-    find-hit h q e = rw (env_more k h) (here x _ _ _ _ q e)
+    find_hit h q e = rw (env_more k h) (here x _ _ _ _ q e)
 
-    pub find-miss : 2 ≤ k → eq_name (name_at img (place_in (get_or env (k - 2 + 1) 0))) x ≡ false → find x (env_of img env k) ≡ find x (env_of img env (k - 2))
-    find-miss h e = rw (env_more k h) (not_here x _ _ _ _ e)
+    pub find_miss : 2 ≤ k → eq_name (name_at img (place_in (get_or env (k - 2 + 1) 0))) x ≡ false → find x (env_of img env k) ≡ find x (env_of img env (k - 2))
+    find_miss h e = rw (env_more k h) (not_here x _ _ _ _ e)
 
-    pub find-other : 2 ≤ k → (get_or env (k - 2) 0 ≡ key_of x → ⊥) → find x (env_of img env k) ≡ find x (env_of img env (k - 2))
-    find-other h n = rw (env_more k h) (no_key x _ _ _ _ n)
+    pub find_other : 2 ≤ k → (get_or env (k - 2) 0 ≡ key_of x → ⊥) → find x (env_of img env k) ≡ find x (env_of img env (k - 2))
+    find_other h n = rw (env_more k h) (no_key x _ _ _ _ n)
 
     pub find_none : k < 2 → find x (env_of img env k) ≡ none
     unfolding find
@@ -109,30 +109,30 @@ module _ (img : List ℕ) (a b : ℕ) (t : Ty) (ta : a ≡ tag_of (ty_of img t))
       rw (y, z, ta, tb) (typ_tag (ty_of img t))
 
   module _ (e : List ℕ) (top q x v : ℕ) (room : top + 2 ≤ length e) (tq : q ≡ key_of (name_at img x)) (tv : Beside img x (a + 8 * b) v) (tb : name_at img b ≡ name_of (ty_of img t)) where
-    keyed-cell : List ℕ
-    keyed-cell = set e top q
+    keyed_cell : List ℕ
+    keyed_cell = set e top q
 
     more : List ℕ
-    more = set keyed-cell (top + 1) v
+    more = set keyed_cell (top + 1) v
 
     below : (i : ℕ) → i < top → get_or more i 0 ≡ get_or e i 0
-    unfolding keyed-cell more
-    below i h = get_or-set_other keyed-cell (top + 1) i v 0 (λ z. omega arith) ∙ get_or-set_other e top i q 0 (λ z. omega arith)
+    unfolding keyed_cell more
+    below i h = get_or-set_other keyed_cell (top + 1) i v 0 (λ z. omega arith) ∙ get_or-set_other e top i q 0 (λ z. omega arith)
 
-    key-there : get_or more top 0 ≡ q
-    unfolding keyed-cell more
-    key-there = get_or-set_other keyed-cell (top + 1) top v 0 (λ z. omega arith) ∙ get_or-set_same e top q 0 (omega arith)
+    key_there : get_or more top 0 ≡ q
+    unfolding keyed_cell more
+    key_there = get_or-set_other keyed_cell (top + 1) top v 0 (λ z. omega arith) ∙ get_or-set_same e top q 0 (omega arith)
 
-    cell-there : get_or more (top + 1) 0 ≡ v
-    unfolding keyed-cell more
-    cell-there = get_or-set_same keyed-cell (top + 1) v 0 (omega (arith, length-set e top q))
+    cell_there : get_or more (top + 1) 0 ≡ v
+    unfolding keyed_cell more
+    cell_there = get_or-set_same keyed_cell (top + 1) v 0 (omega (arith, length-set e top q))
 
     one_more : env_of img more (top + 2) ≡ with_name (name_at img x) (ty_of img t) (env_of img e top)
     one_more =
         let z : top + 2 - 2 ≡ top = omega arith in
-        rw (env_more img more (top + 2) (omega arith), z, key-there ∙ tq, cell-there, tv.name, tv.number, type_back tb, env_frame img e more top below)
+        rw (env_more img more (top + 2) (omega arith), z, key_there ∙ tq, cell_there, tv.name, tv.number, type_back tb, env_frame img e more top below)
         (keyed (name_at img x) (ty_of img t) (env_of img e top))
 
     pub pushed : Pushed img e (set (set e top q) (top + 1) v) top x t (top + 2)
-    unfolding keyed-cell more
-    pushed = record { next = refl; more = one_more; kept = below; size = length-set keyed-cell (top + 1) v ∙ length-set e top q }
+    unfolding keyed_cell more
+    pushed = record { next = refl; more = one_more; kept = below; size = length-set keyed_cell (top + 1) v ∙ length-set e top q }

@@ -44,34 +44,34 @@ module _ (A B : Typ) where
   other_tags p q e = rw (← p, ← q, ne_eqb _ _ e)
 
   module _ {s : Bool} (e : s ≡ eq_typ A B) where
-    pub clash-same : s ≡ true → false ≡ clash A B
+    pub clash_same : s ≡ true → false ≡ clash A B
     unfolding clash is_unknown
-    clash-same h = rw (← e, h)
+    clash_same h = rw (← e, h)
 
-    pub clash-left : {x : ℕ} → s ≡ false → x ≡ tag_of A → x ≡ 4 → false ≡ clash A B
+    pub clash_left : {x : ℕ} → s ≡ false → x ≡ tag_of A → x ≡ 4 → false ≡ clash A B
     unfolding clash is_unknown
-    clash-left h p k = rw (← e, h, ← p, k)
+    clash_left h p k = rw (← e, h, ← p, k)
 
-    pub clash-right : {x y : ℕ} → s ≡ false → x ≡ tag_of A → (x ≡ 4 → ⊥) → y ≡ tag_of B → y ≡ 4 → false ≡ clash A B
+    pub clash_right : {x y : ℕ} → s ≡ false → x ≡ tag_of A → (x ≡ 4 → ⊥) → y ≡ tag_of B → y ≡ 4 → false ≡ clash A B
     unfolding clash is_unknown
-    clash-right h p k q l = rw (← e, h, ← p, ne_eqb _ _ k, ← q, l)
+    clash_right h p k q l = rw (← e, h, ← p, ne_eqb _ _ k, ← q, l)
 
-    pub clash-yes : {x y : ℕ} → s ≡ false → x ≡ tag_of A → (x ≡ 4 → ⊥) → y ≡ tag_of B → (y ≡ 4 → ⊥) → true ≡ clash A B
+    pub clash_yes : {x y : ℕ} → s ≡ false → x ≡ tag_of A → (x ≡ 4 → ⊥) → y ≡ tag_of B → (y ≡ 4 → ⊥) → true ≡ clash A B
     unfolding clash is_unknown
-    clash-yes h p k q l = rw (← e, h, ← p, ne_eqb _ _ k, ← q, ne_eqb _ _ l)
+    clash_yes h p k q l = rw (← e, h, ← p, ne_eqb _ _ k, ← q, ne_eqb _ _ l)
 
     -- of an Init of a field of type B, with a value of type A
-    pub init-same : s ≡ true → false ≡ init_clash B A
+    pub init_same : s ≡ true → false ≡ init_clash B A
     unfolding init_clash is_unknown
-    init-same h = rw (← e, h)
+    init_same h = rw (← e, h)
 
-    pub init-unknown : {x : ℕ} → s ≡ false → x ≡ tag_of A → x ≡ 4 → false ≡ init_clash B A
+    pub init_unknown : {x : ℕ} → s ≡ false → x ≡ tag_of A → x ≡ 4 → false ≡ init_clash B A
     unfolding init_clash is_unknown
-    init-unknown h p k = rw (← e, h, ← p, k)
+    init_unknown h p k = rw (← e, h, ← p, k)
 
-    pub init-yes : {x : ℕ} → s ≡ false → x ≡ tag_of A → (x ≡ 4 → ⊥) → true ≡ init_clash B A
+    pub init_yes : {x : ℕ} → s ≡ false → x ≡ tag_of A → (x ≡ 4 → ⊥) → true ≡ init_clash B A
     unfolding init_clash is_unknown
-    init-yes h p k = rw (← e, h, ← p, ne_eqb _ _ k)
+    init_yes h p k = rw (← e, h, ← p, ne_eqb _ _ k)
 
 pub typ_struct : (k : ℕ) (x : Name) → (k ≡ 0 → ⊥) → (k ≡ 1 → ⊥) → (k ≡ 2 → ⊥) → (k ≡ 3 → ⊥) → (k ≡ 4 → ⊥) → Typ.struct x ≡ typ_of k x
 unfolding typ_of pick

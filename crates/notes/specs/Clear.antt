@@ -11,9 +11,9 @@ use Rattle.rules.specs.Tree.{Expr, Exprs, Inits, Stmt, Stmts, Struct, Function, 
 use Rattle.rules.specs.Types.{Typ, Env, with_name}
 use Rattle.rules.specs.Refusal.{Res, ok, bad, ◌>>=◌, known}
 use Rattle.rules.specs.Analyse as analysis
-use Rattle.rules.specs.Meant.{Access, behind, ofExpr, ofExprs, ofInits, ofStmt, ofStmts, of_function, of_functions, accesses, base_at}
+use Rattle.rules.specs.Meant.{Access, behind, of_expr, of_exprs, of_inits, of_stmt, of_stmts, of_function, of_functions, accesses, base_at}
 use Rattle.rules.specs.Layout.{layouts, with_position, positions, declared, among, choices}
-use Rattle.rules.specs.Ambiguous.{differs, apart, is_ambiguous_lem, inExpr, inExprs, inInits, inStmt, inStmts, in_functions, first_ambiguous_lem}
+use Rattle.rules.specs.Ambiguous.{differs, apart, is_ambiguous_lem, in_expr_lem, in_exprs, in_inits_lem, in_stmt_lem, in_stmts, in_functions, first_ambiguous_lem}
 use Rattle.records.specs.Names.{name_eq, name_refl, never}
 use Rattle.bounds.specs.Held.{Each}
 use Rattle.before.specs.Fields.{some_none}
@@ -98,91 +98,91 @@ module _ (C : Contract) where
   here_not p b o e h = rw (e, h)
 
   mutual
-    unfolding analysis.expr analysis.exprs analysis.inits ofExpr ofExprs ofInits inExpr inExprs inInits
+    unfolding analysis.expr analysis.exprs analysis.inits of_expr of_exprs of_inits in_expr_lem in_exprs in_inits_lem
 
-    expr-none : (e : Expr) (Γ : Env) (t : Typ) → analysis.expr C e Γ ≡ ok t → Each (Clear C) (ofExpr C e Γ) → inExpr C e ≡ none
-    expr-none (Expr.no-expr p) Γ t h c = refl
-    expr-none (Expr.int p v) Γ t h c = refl
-    expr-none (Expr.ident p x) Γ t h c = refl
-    expr-none (Expr.storage-read p x) Γ t h c = refl
-    expr-none (Expr.mapping-read p x e) Γ t h c = let g = then_ok _ _ _ h in expr-none e Γ g.0 g.1.0 c
-    expr-none (Expr.field-access p e x) Γ t h c =
+    expr_none : (e : Expr) (Γ : Env) (t : Typ) → analysis.expr C e Γ ≡ ok t → Each (Clear C) (of_expr C e Γ) → in_expr_lem C e ≡ none
+    expr_none (Expr.no-expr p) Γ t h c = refl
+    expr_none (Expr.int p v) Γ t h c = refl
+    expr_none (Expr.ident p x) Γ t h c = refl
+    expr_none (Expr.storage-read p x) Γ t h c = refl
+    expr_none (Expr.mapping-read p x e) Γ t h c = let g = then_ok _ _ _ h in expr_none e Γ g.0 g.1.0 c
+    expr_none (Expr.field-access p e x) Γ t h c =
         let g = then_ok (analysis.expr C e Γ) _ t h in
-        let k = each_parts (Clear C) (ofExpr C e Γ) _ c in
-        here_not p _ _ (each_behind (Clear C) _ g.1.1 (each_behind (Clear C) _ g.1.0 k.1)).0 (expr-none e Γ g.0 g.1.0 k.0)
-    expr-none (Expr.literal p x is) Γ t h c =
+        let k = each_parts (Clear C) (of_expr C e Γ) _ c in
+        here_not p _ _ (each_behind (Clear C) _ g.1.1 (each_behind (Clear C) _ g.1.0 k.1)).0 (expr_none e Γ g.0 g.1.0 k.0)
+    expr_none (Expr.literal p x is) Γ t h c =
         let g = then_ok (known _ (analysis.struct_named C x)) _ t h in
         let k = then_ok (analysis.inits C g.0 is Γ) _ t g.1.1 in
-        inits-none g.0 is Γ k.0 k.1.0 c
-    expr-none (Expr.binary p a o b) Γ t h c =
+        inits_none g.0 is Γ k.0 k.1.0 c
+    expr_none (Expr.binary p a o b) Γ t h c =
         let g = then_ok (analysis.expr C a Γ) _ t h in
         let f = then_ok (analysis.expr C b Γ) _ t g.1.1 in
-        let k = each_parts (Clear C) (ofExpr C a Γ) _ c in
-        both_none (expr-none a Γ g.0 g.1.0 k.0) (expr-none b Γ f.0 f.1.0 k.1)
-    expr-none (Expr.call p f es) Γ t h c = let g = then_ok (analysis.exprs C es Γ) _ t h in exprs-none es Γ g.0 g.1.0 c
+        let k = each_parts (Clear C) (of_expr C a Γ) _ c in
+        both_none (expr_none a Γ g.0 g.1.0 k.0) (expr_none b Γ f.0 f.1.0 k.1)
+    expr_none (Expr.call p f es) Γ t h c = let g = then_ok (analysis.exprs C es Γ) _ t h in exprs_none es Γ g.0 g.1.0 c
 
-    exprs-none : (es : Exprs) (Γ : Env) (vs : List analysis.Arg) → analysis.exprs C es Γ ≡ ok vs → Each (Clear C) (ofExprs C es Γ) → inExprs C es ≡ none
-    exprs-none Exprs.none Γ vs h c = refl
-    exprs-none (Exprs.more e es) Γ vs h c =
+    exprs_none : (es : Exprs) (Γ : Env) (vs : List analysis.Arg) → analysis.exprs C es Γ ≡ ok vs → Each (Clear C) (of_exprs C es Γ) → in_exprs C es ≡ none
+    exprs_none Exprs.none Γ vs h c = refl
+    exprs_none (Exprs.more e es) Γ vs h c =
         let g = then_ok (analysis.expr C e Γ) _ vs h in
         let f = then_ok (analysis.exprs C es Γ) _ vs g.1.1 in
-        let k = each_parts (Clear C) (ofExpr C e Γ) _ c in
-        both_none (expr-none e Γ g.0 g.1.0 k.0) (exprs-none es Γ f.0 f.1.0 k.1)
+        let k = each_parts (Clear C) (of_expr C e Γ) _ c in
+        both_none (expr_none e Γ g.0 g.1.0 k.0) (exprs_none es Γ f.0 f.1.0 k.1)
 
-    inits-none : (s : Struct) (is : Inits) (Γ : Env) (u : Unit {0}) → analysis.inits C s is Γ ≡ ok u → Each (Clear C) (ofInits C is Γ) → inInits C is ≡ none
-    inits-none s Inits.no-init Γ u h c = refl
-    inits-none s (Inits.init p x e is) Γ u h c =
+    inits_none : (s : Struct) (is : Inits) (Γ : Env) (u : Unit {0}) → analysis.inits C s is Γ ≡ ok u → Each (Clear C) (of_inits C is Γ) → in_inits_lem C is ≡ none
+    inits_none s Inits.no-init Γ u h c = refl
+    inits_none s (Inits.init p x e is) Γ u h c =
         let g = then_ok (analysis.expr C e Γ) _ u h in
         let f = then_ok (analysis.init_fits_lem p x (analysis.field_type_lem x s) g.0) _ u g.1.1 in
-        let k = each_parts (Clear C) (ofExpr C e Γ) _ c in
-        both_none (expr-none e Γ g.0 g.1.0 k.0) (inits-none s is Γ u f.1.1 k.1)
+        let k = each_parts (Clear C) (of_expr C e Γ) _ c in
+        both_none (expr_none e Γ g.0 g.1.0 k.0) (inits_none s is Γ u f.1.1 k.1)
 
   module _ (ret : Typ) where
     mutual
-      unfolding analysis.stmt analysis.stmts ofStmt ofStmts inStmt inStmts
+      unfolding analysis.stmt analysis.stmts of_stmt of_stmts in_stmt_lem in_stmts
 
-      stmt-none : (s : Stmt) (Γ Δ : Env) → analysis.stmt C ret s Γ ≡ ok Δ → Each (Clear C) (ofStmt C ret s Γ) → inStmt C s ≡ none
-      stmt-none (Stmt.no-stmt p) Γ Δ h c = refl
-      stmt-none (Stmt.let-in p x e) Γ Δ h c = let g = then_ok (analysis.expr C e Γ) _ Δ h in expr-none e Γ g.0 g.1.0 c
-      stmt-none (Stmt.constrain p e) Γ Δ h c = let g = then_ok (analysis.expr C e Γ) _ Δ h in expr-none e Γ g.0 g.1.0 c
-      stmt-none (Stmt.assign p x e) Γ Δ h c =
+      stmt_none : (s : Stmt) (Γ Δ : Env) → analysis.stmt C ret s Γ ≡ ok Δ → Each (Clear C) (of_stmt C ret s Γ) → in_stmt_lem C s ≡ none
+      stmt_none (Stmt.no-stmt p) Γ Δ h c = refl
+      stmt_none (Stmt.let-in p x e) Γ Δ h c = let g = then_ok (analysis.expr C e Γ) _ Δ h in expr_none e Γ g.0 g.1.0 c
+      stmt_none (Stmt.constrain p e) Γ Δ h c = let g = then_ok (analysis.expr C e Γ) _ Δ h in expr_none e Γ g.0 g.1.0 c
+      stmt_none (Stmt.assign p x e) Γ Δ h c =
           let f = then_ok (known _ _) _ Δ h in
           let g = then_ok (analysis.expr C e Γ) _ Δ f.1.1 in
-          expr-none e Γ g.0 g.1.0 c
-      stmt-none (Stmt.storage-write p x e) Γ Δ h c = let g = then_ok (analysis.expr C e Γ) _ Δ h in expr-none e Γ g.0 g.1.0 c
-      stmt-none (Stmt.mapping-write p x e f) Γ Δ h c =
+          expr_none e Γ g.0 g.1.0 c
+      stmt_none (Stmt.storage-write p x e) Γ Δ h c = let g = then_ok (analysis.expr C e Γ) _ Δ h in expr_none e Γ g.0 g.1.0 c
+      stmt_none (Stmt.mapping-write p x e f) Γ Δ h c =
           let g = then_ok (analysis.expr C e Γ) _ Δ h in
           let j = then_ok (analysis.expr C f Γ) _ Δ g.1.1 in
-          let k = each_parts (Clear C) (ofExpr C e Γ) _ c in
-          both_none (expr-none e Γ g.0 g.1.0 k.0) (expr-none f Γ j.0 j.1.0 k.1)
-      stmt-none (Stmt.if-else p q t e) Γ Δ h c =
+          let k = each_parts (Clear C) (of_expr C e Γ) _ c in
+          both_none (expr_none e Γ g.0 g.1.0 k.0) (expr_none f Γ j.0 j.1.0 k.1)
+      stmt_none (Stmt.if-else p q t e) Γ Δ h c =
           let g = then_ok (analysis.expr C q Γ) _ Δ h in
           let j = then_ok (analysis.stmts C ret t Γ) _ Δ g.1.1 in
-          let k = each_parts (Clear C) (ofExpr C q Γ) _ c in
-          let i = each_parts (Clear C) (ofStmts C ret t Γ) _ k.1 in
-          both_none (expr-none q Γ g.0 g.1.0 k.0) (both_none (stmts-none t Γ j.0 j.1.0 i.0) (stmts-none e j.0 Δ j.1.1 (each_behind (Clear C) _ j.1.0 i.1)))
-      stmt-none (Stmt.while p q b) Γ Δ h c =
+          let k = each_parts (Clear C) (of_expr C q Γ) _ c in
+          let i = each_parts (Clear C) (of_stmts C ret t Γ) _ k.1 in
+          both_none (expr_none q Γ g.0 g.1.0 k.0) (both_none (stmts_none t Γ j.0 j.1.0 i.0) (stmts_none e j.0 Δ j.1.1 (each_behind (Clear C) _ j.1.0 i.1)))
+      stmt_none (Stmt.while p q b) Γ Δ h c =
           let g = then_ok (analysis.expr C q Γ) _ Δ h in
-          let k = each_parts (Clear C) (ofExpr C q Γ) _ c in
-          both_none (expr-none q Γ g.0 g.1.0 k.0) (stmts-none b Γ Δ g.1.1 k.1)
-      stmt-none (Stmt.for p x e f b) Γ Δ h c =
+          let k = each_parts (Clear C) (of_expr C q Γ) _ c in
+          both_none (expr_none q Γ g.0 g.1.0 k.0) (stmts_none b Γ Δ g.1.1 k.1)
+      stmt_none (Stmt.for p x e f b) Γ Δ h c =
           let g = then_ok (analysis.expr C e Γ) _ Δ h in
           let j = then_ok (analysis.expr C f Γ) _ Δ g.1.1 in
           let r = then_ok (analysis.stmts C ret b (with_name x Typ.u64 Γ)) _ Δ j.1.1 in
-          let k = each_parts (Clear C) (ofExpr C e Γ) _ c in
-          let i = each_parts (Clear C) (ofExpr C f Γ) _ k.1 in
-          both_none (expr-none e Γ g.0 g.1.0 k.0) (both_none (expr-none f Γ j.0 j.1.0 i.0) (stmts-none b (with_name x Typ.u64 Γ) r.0 r.1.0 i.1))
-      stmt-none (Stmt.return p e) Γ Δ h c = let g = then_ok (analysis.expr C e Γ) _ Δ h in expr-none e Γ g.0 g.1.0 c
-      stmt-none (Stmt.return-none p) Γ Δ h c = refl
-      stmt-none (Stmt.emits p x es) Γ Δ h c = let g = then_ok (analysis.exprs C es Γ) _ Δ h in exprs-none es Γ g.0 g.1.0 c
-      stmt-none (Stmt.just p e) Γ Δ h c = let g = then_ok (analysis.expr C e Γ) _ Δ h in expr-none e Γ g.0 g.1.0 c
+          let k = each_parts (Clear C) (of_expr C e Γ) _ c in
+          let i = each_parts (Clear C) (of_expr C f Γ) _ k.1 in
+          both_none (expr_none e Γ g.0 g.1.0 k.0) (both_none (expr_none f Γ j.0 j.1.0 i.0) (stmts_none b (with_name x Typ.u64 Γ) r.0 r.1.0 i.1))
+      stmt_none (Stmt.return p e) Γ Δ h c = let g = then_ok (analysis.expr C e Γ) _ Δ h in expr_none e Γ g.0 g.1.0 c
+      stmt_none (Stmt.return-none p) Γ Δ h c = refl
+      stmt_none (Stmt.emits p x es) Γ Δ h c = let g = then_ok (analysis.exprs C es Γ) _ Δ h in exprs_none es Γ g.0 g.1.0 c
+      stmt_none (Stmt.just p e) Γ Δ h c = let g = then_ok (analysis.expr C e Γ) _ Δ h in expr_none e Γ g.0 g.1.0 c
 
-      stmts-none : (ss : Stmts) (Γ Δ : Env) → analysis.stmts C ret ss Γ ≡ ok Δ → Each (Clear C) (ofStmts C ret ss Γ) → inStmts C ss ≡ none
-      stmts-none Stmts.none Γ Δ h c = refl
-      stmts-none (Stmts.more s ss) Γ Δ h c =
+      stmts_none : (ss : Stmts) (Γ Δ : Env) → analysis.stmts C ret ss Γ ≡ ok Δ → Each (Clear C) (of_stmts C ret ss Γ) → in_stmts C ss ≡ none
+      stmts_none Stmts.none Γ Δ h c = refl
+      stmts_none (Stmts.more s ss) Γ Δ h c =
           let g = then_ok (analysis.stmt C ret s Γ) _ Δ h in
-          let k = each_parts (Clear C) (ofStmt C ret s Γ) _ c in
-          both_none (stmt-none s Γ g.0 g.1.0 k.0) (stmts-none ss g.0 Δ g.1.1 (each_behind (Clear C) _ g.1.0 k.1))
+          let k = each_parts (Clear C) (of_stmt C ret s Γ) _ c in
+          both_none (stmt_none s Γ g.0 g.1.0 k.0) (stmts_none ss g.0 Δ g.1.1 (each_behind (Clear C) _ g.1.0 k.1))
 
   functions_none : (fs : List Function) → analysis.functions C fs ≡ ok tt → Each (Clear C) (of_functions C fs) → in_functions C fs ≡ none
   unfolding analysis.functions analysis.function of_functions of_function in_functions
@@ -191,7 +191,7 @@ module _ (C : Contract) where
       let g = then_ok (analysis.function C f) _ tt h in
       let j = then_ok (analysis.stmts C (analysis.ret_type f.ret) f.body (analysis.with_params f.params [])) _ _ g.1.0 in
       let k = each_parts (Clear C) (of_function C f) _ c in
-      both_none (stmts-none _ f.body _ j.0 j.1.0 k.0) (functions_none fs g.1.1 k.1)
+      both_none (stmts_none _ f.body _ j.0 j.1.0 k.0) (functions_none fs g.1.1 k.1)
 
   -- 02: P2: no 30 where every access has its struct.
   pub sure_clear : analysis.analyse C ≡ ok tt → Each (Sure C) (accesses C) → first_ambiguous_lem C ≡ none

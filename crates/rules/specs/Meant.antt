@@ -23,55 +23,55 @@ module _ (C : Contract) where
   -- 001: analyze_expr, in its order
   unfoldable mutual
     -- In an expression: an access comes behind those of its base.
-    pub ofExpr : Expr → Env → List Access
-    ofExpr (Expr.no-expr p) Γ = []
-    ofExpr (Expr.int p v) Γ = []
-    ofExpr (Expr.ident p x) Γ = []
-    ofExpr (Expr.storage-read p x) Γ = []
-    ofExpr (Expr.mapping-read p x e) Γ = ofExpr e Γ
-    ofExpr (Expr.field-access p e x) Γ =
-        ofExpr e Γ ++ behind (analysis.expr C e Γ) (λ t. behind (analysis.access C p t x) (λ u. record { place = p; field = x; base = t } ∷ []))
-    ofExpr (Expr.literal p x is) Γ = ofInits is Γ
-    ofExpr (Expr.binary p a o b) Γ = ofExpr a Γ ++ ofExpr b Γ
-    ofExpr (Expr.call p f es) Γ = ofExprs es Γ
+    pub of_expr : Expr → Env → List Access
+    of_expr (Expr.no-expr p) Γ = []
+    of_expr (Expr.int p v) Γ = []
+    of_expr (Expr.ident p x) Γ = []
+    of_expr (Expr.storage-read p x) Γ = []
+    of_expr (Expr.mapping-read p x e) Γ = of_expr e Γ
+    of_expr (Expr.field-access p e x) Γ =
+        of_expr e Γ ++ behind (analysis.expr C e Γ) (λ t. behind (analysis.access C p t x) (λ u. record { place = p; field = x; base = t } ∷ []))
+    of_expr (Expr.literal p x is) Γ = of_inits is Γ
+    of_expr (Expr.binary p a o b) Γ = of_expr a Γ ++ of_expr b Γ
+    of_expr (Expr.call p f es) Γ = of_exprs es Γ
 
     -- In arguments, in turn.
-    pub ofExprs : Exprs → Env → List Access
-    ofExprs Exprs.none Γ = []
-    ofExprs (Exprs.more e es) Γ = ofExpr e Γ ++ ofExprs es Γ
+    pub of_exprs : Exprs → Env → List Access
+    of_exprs Exprs.none Γ = []
+    of_exprs (Exprs.more e es) Γ = of_expr e Γ ++ of_exprs es Γ
 
     -- In the values of a literal, in turn.
-    pub ofInits : Inits → Env → List Access
-    ofInits Inits.no-init Γ = []
-    ofInits (Inits.init p x e is) Γ = ofExpr e Γ ++ ofInits is Γ
+    pub of_inits : Inits → Env → List Access
+    of_inits Inits.no-init Γ = []
+    of_inits (Inits.init p x e is) Γ = of_expr e Γ ++ of_inits is Γ
 
   -- 001: analyze_stmt, in a function that gives `ret`
   module _ (ret : Typ) where
     unfoldable mutual
       -- In a statement.
-      pub ofStmt : Stmt → Env → List Access
-      ofStmt (Stmt.no-stmt p) Γ = []
-      ofStmt (Stmt.let-in p x e) Γ = ofExpr e Γ
-      ofStmt (Stmt.constrain p e) Γ = ofExpr e Γ
-      ofStmt (Stmt.assign p x e) Γ = ofExpr e Γ
-      ofStmt (Stmt.storage-write p x e) Γ = ofExpr e Γ
-      ofStmt (Stmt.mapping-write p x e f) Γ = ofExpr e Γ ++ ofExpr f Γ
-      ofStmt (Stmt.if-else p c t e) Γ = ofExpr c Γ ++ (ofStmts t Γ ++ behind (analysis.stmts C ret t Γ) (λ Δ. ofStmts e Δ))
-      ofStmt (Stmt.while p c b) Γ = ofExpr c Γ ++ ofStmts b Γ
-      ofStmt (Stmt.for p x e f b) Γ = ofExpr e Γ ++ (ofExpr f Γ ++ ofStmts b (with_name x Typ.u64 Γ))
-      ofStmt (Stmt.return p e) Γ = ofExpr e Γ
-      ofStmt (Stmt.return-none p) Γ = []
-      ofStmt (Stmt.emits p x es) Γ = ofExprs es Γ
-      ofStmt (Stmt.just p e) Γ = ofExpr e Γ
+      pub of_stmt : Stmt → Env → List Access
+      of_stmt (Stmt.no-stmt p) Γ = []
+      of_stmt (Stmt.let-in p x e) Γ = of_expr e Γ
+      of_stmt (Stmt.constrain p e) Γ = of_expr e Γ
+      of_stmt (Stmt.assign p x e) Γ = of_expr e Γ
+      of_stmt (Stmt.storage-write p x e) Γ = of_expr e Γ
+      of_stmt (Stmt.mapping-write p x e f) Γ = of_expr e Γ ++ of_expr f Γ
+      of_stmt (Stmt.if-else p c t e) Γ = of_expr c Γ ++ (of_stmts t Γ ++ behind (analysis.stmts C ret t Γ) (λ Δ. of_stmts e Δ))
+      of_stmt (Stmt.while p c b) Γ = of_expr c Γ ++ of_stmts b Γ
+      of_stmt (Stmt.for p x e f b) Γ = of_expr e Γ ++ (of_expr f Γ ++ of_stmts b (with_name x Typ.u64 Γ))
+      of_stmt (Stmt.return p e) Γ = of_expr e Γ
+      of_stmt (Stmt.return-none p) Γ = []
+      of_stmt (Stmt.emits p x es) Γ = of_exprs es Γ
+      of_stmt (Stmt.just p e) Γ = of_expr e Γ
 
       -- In a block, in turn.
-      pub ofStmts : Stmts → Env → List Access
-      ofStmts Stmts.none Γ = []
-      ofStmts (Stmts.more s ss) Γ = ofStmt s Γ ++ behind (analysis.stmt C ret s Γ) (λ Δ. ofStmts ss Δ)
+      pub of_stmts : Stmts → Env → List Access
+      of_stmts Stmts.none Γ = []
+      of_stmts (Stmts.more s ss) Γ = of_stmt s Γ ++ behind (analysis.stmt C ret s Γ) (λ Δ. of_stmts ss Δ)
 
   -- 001: analyze_function
   unfoldable pub of_function : Function → List Access
-  of_function f = ofStmts (analysis.ret_type f.ret) f.body (analysis.with_params f.params [])
+  of_function f = of_stmts (analysis.ret_type f.ret) f.body (analysis.with_params f.params [])
 
   -- In every function, called or not.
   unfoldable pub of_functions : List Function → List Access

@@ -1,5 +1,5 @@
 -- The loops of the walk.
---     Rest              whatever is found in the rest of a list is found in all of it; Args, Inits: args-go, args_in, args-past, args-whole, ..
+--     Rest              whatever is found in the rest of a list is found in all of it; Args, Inits: args_go, args_in, args_past, args_whole, ..
 --     Down              whatever is found in the part is found in the whole: down_go, down_own, down_end
 -- Assumes nothing.
 use Rattle.std.specs.Prelude.{◌≡◌, refl, Bool, true, false, List, [], ◌∷◌, ℕ, zero, suc, ◌+◌, ◌-◌, ◌≤◌, ◌<◌}
@@ -10,7 +10,7 @@ use Rattle.rules.specs.Refusal.{Res, ok, bad}
 use Rattle.rules.specs.Emit.{AtReg}
 use Rattle.emit.specs.declared.St.{St}
 use Rattle.emit.specs.declared.Rules.{Rules}
-use Rattle.emit.specs.Steps.{Out, after as then, ◌>>=◌, done, Regs, gen, gens, gen-inits}
+use Rattle.emit.specs.Steps.{Out, after as then, ◌>>=◌, done, Regs, gen, gens, gen_inits}
 use Rattle.emit.specs.Laws.{after_none, after_after}
 use Rattle.emit.specs.Ran.{Tally}
 use Rattle.emit.specs.State.{rules_of, tally}
@@ -95,35 +95,35 @@ module _ (img scope : List ℕ) (R : Rules) (d e first : ℕ) (st : St) (want p 
   more n = gens (rules_of R) (contract_at img) (exprs_from (64 - (i + 1)) (expr_at d img) img (after img p) e) (scope_in img scope) n
 
   abbrev others : ℕ → Res (Out Regs)
-  others n = gen-inits (rules_of R) (contract_at img) (inits_from (64 - (i + 1)) (expr_at d img) img (after img p) e) (scope_in img scope) n
+  others n = gen_inits (rules_of R) (contract_at img) (inits_from (64 - (i + 1)) (expr_at d img) img (after img p) e) (scope_in img scope) n
 
   module _ {s : St} (h : Args img scope R d e first st want p s i) where
-    pub args-go : {q : ℕ} {v : St} → i < 64 → p < e → q ≡ after img p → Counts img scope R d p s v → v.n ≤ want → Args img scope R d e first st want q v (i + 1)
-    args-go l m f c b = rw f (rest_go more h (args_more R (contract_at img) (expr_at d img) img (scope_in img scope) s.next i p e l m) c b)
+    pub args_go : {q : ℕ} {v : St} → i < 64 → p < e → q ≡ after img p → Counts img scope R d p s v → v.n ≤ want → Args img scope R d e first st want q v (i + 1)
+    args_go l m f c b = rw f (rest_go more h (args_more R (contract_at img) (expr_at d img) img (scope_in img scope) s.next i p e l m) c b)
 
     pub args_in : {a : ℕ} {v : St} {r : Step} → i < 64 → p < e → Counts img scope R d p s v → want < v.n → r ≡ into p v.n s
         → Listed img scope R d (args img scope R (exprs_from 64 (expr_at d img) img first e) st) a st want r
     args_in l m c b f = rest_in more h (args_more R (contract_at img) (expr_at d img) img (scope_in img scope) s.next i p e l m) c b f
 
-    pub args-past : {a : ℕ} {z : St} {r : Step} → e ≤ p → r ≡ owned a z → Listed img scope R d (args img scope R (exprs_from 64 (expr_at d img) img first e) st) a st want r
-    args-past l f = rest_end _ h (args_end R (contract_at img) (expr_at d img) img (scope_in img scope) s.next (64 - i) p e l) f
+    pub args_past : {a : ℕ} {z : St} {r : Step} → e ≤ p → r ≡ owned a z → Listed img scope R d (args img scope R (exprs_from 64 (expr_at d img) img first e) st) a st want r
+    args_past l f = rest_end _ h (args_end R (contract_at img) (expr_at d img) img (scope_in img scope) s.next (64 - i) p e l) f
 
-    pub args-whole : {a : ℕ} {z : St} {r : Step} → 64 ≤ i → r ≡ owned a z → Listed img scope R d (args img scope R (exprs_from 64 (expr_at d img) img first e) st) a st want r
-    args-whole l f = rest_end _ h (args_full R (contract_at img) (expr_at d img) img (scope_in img scope) s.next i p e l) f
+    pub args_whole : {a : ℕ} {z : St} {r : Step} → 64 ≤ i → r ≡ owned a z → Listed img scope R d (args img scope R (exprs_from 64 (expr_at d img) img first e) st) a st want r
+    args_whole l f = rest_end _ h (args_full R (contract_at img) (expr_at d img) img (scope_in img scope) s.next i p e l) f
 
   module _ {s : St} (h : Inits img scope R d e first st want p s i) where
-    pub inits-go : {q x : ℕ} {v : St} → i < 64 → p < e → x ≡ second img p → q ≡ after img p → Counts img scope R d x s v → v.n ≤ want → Inits img scope R d e first st want q v (i + 1)
-    inits-go l m y f c b = rw f (rest_go others h (inits_more R (contract_at img) (expr_at d img) img (scope_in img scope) s.next i p e l m) (rw y at c) b)
+    pub inits_go : {q x : ℕ} {v : St} → i < 64 → p < e → x ≡ second img p → q ≡ after img p → Counts img scope R d x s v → v.n ≤ want → Inits img scope R d e first st want q v (i + 1)
+    inits_go l m y f c b = rw f (rest_go others h (inits_more R (contract_at img) (expr_at d img) img (scope_in img scope) s.next i p e l m) (rw y at c) b)
 
-    pub inits-in : {a x : ℕ} {v : St} {r : Step} → i < 64 → p < e → x ≡ second img p → Counts img scope R d x s v → want < v.n → r ≡ into x v.n s
+    pub inits_in : {a x : ℕ} {v : St} {r : Step} → i < 64 → p < e → x ≡ second img p → Counts img scope R d x s v → want < v.n → r ≡ into x v.n s
         → Listed img scope R d (inits img scope R (inits_from 64 (expr_at d img) img first e) st) a st want r
-    inits-in {a} {x} {v} l m y c b f = rest_in others h (inits_more R (contract_at img) (expr_at d img) img (scope_in img scope) s.next i p e l m) (rw y at c) b (f ∙ ap (λ (z : ℕ). into z v.n s) y)
+    inits_in {a} {x} {v} l m y c b f = rest_in others h (inits_more R (contract_at img) (expr_at d img) img (scope_in img scope) s.next i p e l m) (rw y at c) b (f ∙ ap (λ (z : ℕ). into z v.n s) y)
 
-    pub inits-past : {a : ℕ} {z : St} {r : Step} → e ≤ p → r ≡ owned a z → Listed img scope R d (inits img scope R (inits_from 64 (expr_at d img) img first e) st) a st want r
-    inits-past l f = rest_end _ h (inits_end R (contract_at img) (expr_at d img) img (scope_in img scope) s.next (64 - i) p e l) f
+    pub inits_past : {a : ℕ} {z : St} {r : Step} → e ≤ p → r ≡ owned a z → Listed img scope R d (inits img scope R (inits_from 64 (expr_at d img) img first e) st) a st want r
+    inits_past l f = rest_end _ h (inits_end R (contract_at img) (expr_at d img) img (scope_in img scope) s.next (64 - i) p e l) f
 
-    pub inits-whole : {a : ℕ} {z : St} {r : Step} → 64 ≤ i → r ≡ owned a z → Listed img scope R d (inits img scope R (inits_from 64 (expr_at d img) img first e) st) a st want r
-    inits-whole l f = rest_end _ h (inits_full R (contract_at img) (expr_at d img) img (scope_in img scope) s.next i p e l) f
+    pub inits_whole : {a : ℕ} {z : St} {r : Step} → 64 ≤ i → r ≡ owned a z → Listed img scope R d (inits img scope R (inits_from 64 (expr_at d img) img first e) st) a st want r
+    inits_whole l f = rest_end _ h (inits_full R (contract_at img) (expr_at d img) img (scope_in img scope) s.next i p e l) f
 
 -- Whatever is found in the part that t leads to is found in the whole.
 pub record Down (img scope : List ℕ) (R : Rules) (depth p : ℕ) (st : St) (end want d : ℕ) (t : Step) : Type 0 where

@@ -24,7 +24,7 @@ use Rattle.rules.specs.Emit.{Open, calls, Scope, add, push, pop, count, shift_in
 use Rattle.rules.specs.Generate.{alloc_reg_lem}
 use Rattle.emit.specs.declared.St.{St}
 use Rattle.emit.specs.declared.Rules.{Rules}
-use Rattle.emit.specs.Steps.{Out, after as then, ◌>>=◌, done, say, ask, at, Regs, gen, gens, gen-inits, gen_call, gen_number}
+use Rattle.emit.specs.Steps.{Out, after as then, ◌>>=◌, done, say, ask, at, Regs, gen, gens, gen_inits, gen_call, gen_number}
 use Rattle.emit.specs.Laws.{after_none}
 use Rattle.emit.specs.Sinks.{sinks}
 use Rattle.emit.specs.Ran.{raw, Tally}
@@ -190,13 +190,13 @@ module _ (R : Rules) (C : Contract) (want p : ℕ) (name : List ℕ) (n k : ℕ)
     is = λ fine o e z low le w x.
         let c = call_words o e in
         let l = ap length c.words in
-        let m = length-calls c.behind in
+        let m = length_calls c.behind in
         let i : want - t.n ≡ length passed + 0 = omega (arith, h, z, l, m, c.long) in
         ap (spot_of C want) (some_same (sym (nth_later passed (calls p name ∷ c.behind) 0) ∙ ap (λ (j : ℕ). nth j (passed ++ (calls p name ∷ c.behind))) (sym i) ∙ ap (λ (ws : List Open). nth (want - t.n) ws) (sym c.words) ∙ x));
   }
     where
-      length-calls : (b : List Open) → length (passed ++ (calls p name ∷ b)) ≡ length passed + (length b + 1)
-      length-calls b = omega (arith, length-append passed (calls p name ∷ b))
+      length_calls : (b : List Open) → length (passed ++ (calls p name ∷ b)) ≡ length passed + (length b + 1)
+      length_calls b = omega (arith, length-append passed (calls p name ∷ b))
 
   pub call_elsewhere : (want + k + 2 ≡ end → ⊥) → Found (spot_of C want) call_end t end want (plain p)
   unfolding spot_of

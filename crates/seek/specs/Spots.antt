@@ -16,7 +16,7 @@ use Rattle.rules.specs.Emit.{Open, word, calls, AtReg}
 use Rattle.rules.specs.Why.{landing}
 use Rattle.emit.specs.declared.St.{St}
 use Rattle.emit.specs.declared.Rules.{Rules}
-use Rattle.emit.specs.Steps.{Out, ◌>>=◌, at, Regs, gen, gens, gen-inits, gen_call}
+use Rattle.emit.specs.Steps.{Out, ◌>>=◌, at, Regs, gen, gens, gen_inits, gen_call}
 use Rattle.emit.specs.Ran.{or_first, Tally, Sums}
 use Rattle.emit.specs.State.{rules_of, tally}
 use Rattle.expr.specs.Scope.{scope_in}
@@ -69,7 +69,7 @@ abbrev pub args : (img scope : List ℕ) → Rules → Exprs → St → Res (Out
 args img scope R es st = gens (rules_of R) (contract_at img) es (scope_in img scope) st.next
 
 abbrev pub inits : (img scope : List ℕ) → Rules → Inits → St → Res (Out Regs)
-inits img scope R is st = gen-inits (rules_of R) (contract_at img) is (scope_in img scope) st.next
+inits img scope R is st = gen_inits (rules_of R) (contract_at img) is (scope_in img scope) st.next
 
 abbrev pub value_in : St → AtReg
 value_in t = at (t.reg % 256) t.next

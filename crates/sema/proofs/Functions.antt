@@ -62,18 +62,18 @@ module _ (img : List ℕ) where
   from_start = refl
 
   module _ (i : ℕ) where
-    pub from-done : length (functions_in img) ≤ i → ok tt ≡ from img i
+    pub from_done : length (functions_in img) ≤ i → ok tt ≡ from img i
     unfolding functions
-    from-done h = rw (drop_all (functions_in img) i h)
+    from_done h = rw (drop_all (functions_in img) i h)
 
     module _ (l : i < length (functions_in img)) where
       pub from_next : ok tt ≡ function (contract_at img) (function_at img (get_or (functions_in img) i 0)) → from img i ≡ from img (i + 1)
       unfolding functions
       from_next h = rw (drop_get (functions_in img) i l, add-one) (sym (then_ok _ h refl))
 
-      pub from-bad : {r : Refusal} → bad r ≡ function (contract_at img) (function_at img (get_or (functions_in img) i 0)) → bad r ≡ from img i
+      pub from_bad : {r : Refusal} → bad r ≡ function (contract_at img) (function_at img (get_or (functions_in img) i 0)) → bad r ≡ from img i
       unfolding functions
-      from-bad h = rw (drop_get (functions_in img) i l) (then_bad _ h)
+      from_bad h = rw (drop_get (functions_in img) i l) (then_bad _ h)
 
 -- 02: P2: the accesses of the functions from index i on
 abbrev pub accesses_from : List ℕ → ℕ → List Access

@@ -106,9 +106,9 @@ module _ {img e e1 : List ℕ} {top x k0 : ℕ} {t : Ty} (p : Pushed img e e1 to
     low : (i : ℕ) → i < top → get_or e2 i 0 ≡ get_or e i 0
     low i l = s.kept i (omega (arith, p.next)) ∙ p.kept i l
 
-    pub for-done : {k n : ℕ} → r ≡ after.Top k → Stepped img e e2 N N₁ top n (after.Top top) (o >>= λ Δ. ok (env_of img e top)) l
+    pub for_done : {k n : ℕ} → r ≡ after.Top k → Stepped img e e2 N N₁ top n (after.Top top) (o >>= λ Δ. ok (env_of img e top)) l
     unfolding ◌>>=◌ after_of Within
-    for-done q = record {
+    for_done q = record {
       answer = rw (← answered s q) (ap ok (env_frame img e e2 top low));
       within = (omega arith, omega arith);
       kept = low;
@@ -116,6 +116,6 @@ module _ {img e e1 : List ℕ} {top x k0 : ℕ} {t : Ty} (p : Pushed img e e1 to
       notes = wrote _ _ (told s q);
     }
 
-    pub for-bad : {n : ℕ} {f : Fault} → r ≡ after.Refused f → Stepped img e e2 N N₁ top n r (o >>= λ Δ. ok (env_of img e top)) l
+    pub for_bad : {n : ℕ} {f : Fault} → r ≡ after.Refused f → Stepped img e e2 N N₁ top n r (o >>= λ Δ. ok (env_of img e top)) l
     unfolding after_of Within
-    for-bad q = rw q (record { answer = then_bad _ (stopped s q); within = tt; kept = low; size = s.size ∙ p.size; notes = refused _ _ _ refl })
+    for_bad q = rw q (record { answer = then_bad _ (stopped s q); within = tt; kept = low; size = s.size ∙ p.size; notes = refused _ _ _ refl })

@@ -12,7 +12,7 @@ use Rattle.rules.specs.Analyse.{expr, stmt, stmts, with_params}
 use Rattle.rules.specs.Read.{StmtKind, expr_at, stmt_as, stmt_at_lem, body_at, else_at, contract_at, field_at}
 use Rattle.bounds.specs.Sizes.{vars, vars-stmts}
 use Rattle.lookup.specs.Answers.{fault_of, env_of}
-use Rattle.rules.specs.Meant.{Access, ofStmt, ofStmts}
+use Rattle.rules.specs.Meant.{Access, of_stmt, of_stmts}
 use Rattle.notes.specs.Notes.{Wrote}
 use Rattle.sema.specs.declared.After.{After}
 use Rattle.sema.specs.declared.After.TheVariants as after
@@ -46,10 +46,10 @@ pub record Stepped (img e e' N N' : List ℕ) (top m : ℕ) (r : After) (o : Res
   pub notes : Wrote (contract_at img) N N' l (after_of img e' r)
 
 abbrev pub Step : (img e e' N N' : List ℕ) (top : ℕ) (r : After) (R : Typ) → Stmt → Type 0
-Step img e e' N N' top r R s = Stepped img e e' N N' top (vars s) r (stmt (contract_at img) R s (env_of img e top)) (ofStmt (contract_at img) R s (env_of img e top))
+Step img e e' N N' top r R s = Stepped img e e' N N' top (vars s) r (stmt (contract_at img) R s (env_of img e top)) (of_stmt (contract_at img) R s (env_of img e top))
 
 abbrev pub Steps : (img e e' N N' : List ℕ) (top : ℕ) (r : After) (R : Typ) → Stmts → Type 0
-Steps img e e' N N' top r R ss = Stepped img e e' N N' top (vars-stmts ss) r (stmts (contract_at img) R ss (env_of img e top)) (ofStmts (contract_at img) R ss (env_of img e top))
+Steps img e e' N N' top r R ss = Stepped img e e' N N' top (vars-stmts ss) r (stmts (contract_at img) R ss (env_of img e top)) (of_stmts (contract_at img) R ss (env_of img e top))
 
 -- an expression alone
 unfoldable pub only : Contract → Expr → Env → Res Env

@@ -11,7 +11,7 @@ ghost use Rattle.rules.specs.Read.{expr_at, stmt_at_lem, stmt_kind_of, sLet, sAs
 ghost use Rattle.rules.specs.Types.{Typ, clash, with_name};
 ghost use Rattle.rules.specs.Refusal.{Refusal, unless, answer, refused};
 ghost use Rattle.rules.specs.Analyse.{function};
-ghost use Rattle.rules.specs.Meant.{ofExpr, ofStmts, of_function, accesses};
+ghost use Rattle.rules.specs.Meant.{of_expr, of_stmts, of_function, accesses};
 ghost use Rattle.rules.specs.Build.{analyse_of};
 ghost use Rattle.tables.specs.Listed.{Tabled};
 ghost use Rattle.notes.specs.Notes.{Wrote};
@@ -42,7 +42,7 @@ fn run_expr(
     top: usize,
 ) -> After
     requires { Tabled img.now tables.now }
-    ensures { Stepped img.now env.now env.now notes.old notes.new top 0 result (only (contract_at img.now) (expr_at d img.now at) (env_of img.now env.now top)) (ofExpr (contract_at img.now) (expr_at d img.now at) (env_of img.now env.now top)) }
+    ensures { Stepped img.now env.now env.now notes.old notes.new top 0 result (only (contract_at img.now) (expr_at d img.now at) (env_of img.now env.now top)) (of_expr (contract_at img.now) (expr_at d img.now at) (env_of img.now env.now top)) }
 {
     let t = typing::analyze_expr(notes, img, tables, at, d, env, top);
     match t {
@@ -361,7 +361,7 @@ fn analyze_loop(
     ret: Ty,
 ) -> After
     requires { (Tabled img.now tables.now) × (top + 2 * (suc (vars-stmts (body_of d img.now at))) ≤ length env.old) }
-    ensures { Stepped img.now env.old env.new notes.old notes.new top (suc (vars-stmts (body_of d img.now at))) result (in_loop (contract_at img.now) (ty_of img.now ret) (name_at img.now x) (body_of d img.now at) (env_of img.now env.old top)) (ofStmts (contract_at img.now) (ty_of img.now ret) (body_of d img.now at) (with_name (name_at img.now x) Typ.u64 (env_of img.now env.old top))) }
+    ensures { Stepped img.now env.old env.new notes.old notes.new top (suc (vars-stmts (body_of d img.now at))) result (in_loop (contract_at img.now) (ty_of img.now ret) (name_at img.now x) (body_of d img.now at) (env_of img.now env.old top)) (of_stmts (contract_at img.now) (ty_of img.now ret) (body_of d img.now at) (with_name (name_at img.now x) Typ.u64 (env_of img.now env.old top))) }
 {
     let inner = lookup::push(env, img, top, x, Ty::U64);
     let a = analyze_list(env, notes, img, tables, at, d, inner, ret);

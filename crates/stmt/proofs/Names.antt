@@ -73,12 +73,12 @@ module _ (s : List ℕ) (key v : ℕ) (names : get_or s 0 0 < 512) (size : 1025 
   more_cell = cell (2 * k + 2) (omega arith) ∙ get_or-set_same keyed (2 * k + 2) v 0 (simp length-set (omega arith))
 
   module _ (img : List ℕ) (p r : ℕ) (b : Beside img p (r % 256) v) where
-    more-reg : reg_no more k ≡ r % 256
-    more-reg = let low : number_in v % 256 ≡ r % 256 = omega (arith, b.number) in rw more_cell low
+    more_reg : reg_no more k ≡ r % 256
+    more_reg = let low : number_in v % 256 ≡ r % 256 = omega (arith, b.number) in rw more_cell low
 
     one_more : key ≡ key_of (name_at img p) → scope_of img more (suc k) ≡ with_name (name_at img p) (r % 256) (scope_of img s k)
     unfolding scope_of pick
-    one_more e = rw (more-reg, more_key, more_cell, b.name, eq-eqb key (key_of (name_at img p)) e, from_same img s more k more_kept) refl
+    one_more e = rw (more_reg, more_key, more_cell, b.name, eq-eqb key (key_of (name_at img p)) e, from_same img s more k more_kept) refl
 
     pub bound : key ≡ key_of (name_at img p) → Binds img p r s more
     bound e = record {
@@ -88,7 +88,7 @@ module _ (s : List ℕ) (key v : ℕ) (names : get_or s 0 0 < 512) (size : 1025 
           rw (n, m) (one_more e);
       frame = record { least = omega (arith, more_count); most = omega (arith, more_count); kept = more_kept };
       count = more_count;
-      reg = more-reg;
+      reg = more_reg;
     }
 
 -- The count that was there, put back.

@@ -1,8 +1,8 @@
 -- The clauses of the request (02: P1), of the answer and the slice that `text` leaves.
 --     short            52: nothing else is looked at
---     as-built         number and place are the build's, where that does not come to the room
+--     as_built         number and place are the build's, where that does not come to the room
 --     unchanged        with 0, 1 to 7 and 30 there is no text
---     rest-lent        past the text the slice is as lent
+--     rest_lent        past the text the slice is as lent
 -- Assumes nothing.
 use Rattle.std.specs.Prelude.{◌≡◌, Bool, ℕ, ◌/◌, ◌≤◌, ◌<◌, ltb, length}
 use Rattle.std.proofs.Math.Path.{refl}
@@ -70,18 +70,18 @@ module _ (img s : List ℕ) where
         by (ok P) h = (refl, refl)
         by (bad r) h = rw (silent r h) (refl, refl)
 
-    pub rest-lent : Rest (text_answer img s).count s (text_bytes img s)
+    pub rest_lent : Rest (text_answer img s).count s (text_bytes img s)
     unfolding told_answer told_text
-    rest-lent = rw (answered, written) (by (program rules img) refl)
+    rest_lent = rw (answered, written) (by (program rules img) refl)
       where
         by : (m : Res Program) → program rules img ≡ m → Rest (told_answer m).count s (over (told_text m) s)
         by (ok P) e = rest_over [] s (omega arith)
         by (bad r) e = rest_over (text_of r) s (omega (arith, long, said_of (texts_fit rules img) e))
 
-    pub as-built : (code table : List ℕ) → ((build_of rules img code table).refusal ≡ 50 → ⊥) → ((build_of rules img code table).refusal ≡ 51 → ⊥)
+    pub as_built : (code table : List ℕ) → ((build_of rules img code table).refusal ≡ 50 → ⊥) → ((build_of rules img code table).refusal ≡ 51 → ⊥)
         → ((text_answer img s).refusal ≡ (build_of rules img code table).refusal) × ((text_answer img s).place ≡ (build_of rules img code table).place)
     unfolding build_of outcome program_answer told_answer fits listed unless ◌>>=◌ number_of place_of refused
-    as-built code table g h = rw answered (by (program rules img) g h)
+    as_built code table g h = rw answered (by (program rules img) g h)
       where
         entries : (P : Program) (b : Bool) → ((program_answer (unless b (Refusal.no_table (length P.table)) P)).refusal ≡ 51 → ⊥)
             → (0 ≡ (program_answer (unless b (Refusal.no_table (length P.table)) P)).refusal) × (0 ≡ (program_answer (unless b (Refusal.no_table (length P.table)) P)).place)

@@ -1,8 +1,8 @@
 -- The loops of the walk, and a statement by its kind.
---     Logs          whatever is found in the rest of an Emit's arguments is found in all: logs_begin, logs_go, logs-in, logs-own, logs_end
---     Rest          whatever is found in the rest of a List is found in all of it: rest_begin, rest_go, rest_in, rest-last, rest_end
+--     Logs          whatever is found in the rest of an Emit's arguments is found in all: logs_begin, logs_go, logs_in, logs_own, logs_end
+--     Rest          whatever is found in the rest of a List is found in all of it: rest_begin, rest_go, rest_in, rest_last, rest_end
 --     falls_absent, falls_ready, falls_in      a step down from a List, by its statement
---     Down          whatever is found in the List that t leads to is found in the whole: down_begin, down-go, down-settled, down_end
+--     Down          whatever is found in the List that t leads to is found in the whole: down_begin, down_go, down_settled, down_end
 --     alone_ready, alone_counted         a statement by itself is a List of one
 --     kind_in, kind_own, kind_ready      by its number
 -- Assumes nothing.
@@ -20,7 +20,7 @@ use Rattle.rules.specs.Emit.{Rules as Target, Open, Scope, emit}
 use Rattle.bounds.specs.Sizes.{vars, vars-stmts}
 use Rattle.emit.specs.declared.St.{St}
 use Rattle.emit.specs.declared.Rules.{Rules}
-use Rattle.emit.specs.Steps.{Out, after as then, ◌>>=◌, done, Here, gen_logs, gen-stmt, gen-stmts}
+use Rattle.emit.specs.Steps.{Out, after as then, ◌>>=◌, done, Here, gen_logs, gen_stmt_lem, gen_stmts_lem}
 use Rattle.emit.specs.Sinks.{Sinks}
 use Rattle.emit.specs.Ran.{raw, Tally}
 use Rattle.emit.specs.State.{rules_of, tally, Keeps}
@@ -51,8 +51,8 @@ logs_begin = record { all_of = λ a end h. h }
 -- what is found in the arguments is found in the statement
 emits_in : (img s : List ℕ) (R : Rules) (d i : ℕ) {l e p : ℕ} (st : St) {want : ℕ} → l ≡ second img i → p ≡ inside img l → e ≡ after img l → (a : Spot) (end : ℕ)
     → Found (told img want) (gen_logs (rules_of R) (contract_at img) i (exprs_from 65536 (expr_at d img) img p e) (scope_in img s) st.next) (tally st) end want a
-    → Found (told img want) (gen-stmt (rules_of R) (contract_at img) (taken sEmit d img i) (scope_in img s) st.next) (tally st) end want a
-unfolding stmt_as gen-stmt
+    → Found (told img want) (gen_stmt_lem (rules_of R) (contract_at img) (taken sEmit d img i) (scope_in img s) st.next) (tally st) end want a
+unfolding stmt_as gen_stmt_lem
 emits_in img s R d i {l} {e} {p} st {want} f g h a end k = rw (← f, ← g, ← h) (found_last (told img want) _ _ (λ z. long_done _) k)
 
 module _ {img s : List ℕ} {R : Rules} {d i e p₀ : ℕ} {st : St} {want p : ℕ} {z : St} (L : Logs img s R d i e p₀ st want p z) (small : length img ≤ 65536) (fits : e ≤ length img) (more : p < e) where
@@ -64,16 +64,16 @@ module _ {img s : List ℕ} {R : Rules} {d i e p₀ : ℕ} {st : St} {want p : �
   }
 
   module _ {t N : List ℕ} {l end : ℕ} {r : Step} (hl : l ≡ second img i) (hp : p₀ ≡ inside img l) (he : e ≡ after img l) where
-    pub logs-in : {v : St} → Counts img s R d p z v → want < v.n → r ≡ into p v.n z → Moves img t N s s R d sEmit i st end want r
+    pub logs_in : {v : St} → Counts img s R d p z v → want < v.n → r ≡ into p v.n z → Moves img t N s s R d sEmit i st end want r
     unfolding gen_logs
-    logs-in c b q = record {
+    logs_in c b q = record {
       leads = λ a h. emits_in img s R d i st hl hp he a end (L.all_of a end (rw (exprs_more img (expr_at d img) 65536 p e more fits (omega arith)) (into_first c b q (ends_into q h) _)));
       ready = λ y. absurd (omega (arith, sym (ap (λ (x : Step). x.way) q) ∙ y));
     }
 
-    pub logs-own : {v y j : St} → Counts img s R d p z v → v.n ≤ want → Keeps v y → want < y.n → r ≡ owned i j → Moves img t N s s R d sEmit i st end want r
+    pub logs_own : {v y j : St} → Counts img s R d p z v → v.n ≤ want → Keeps v y → want < y.n → r ≡ owned i j → Moves img t N s s R d sEmit i st end want r
     unfolding gen_logs spot_of
-    logs-own c b k m q = record {
+    logs_own c b k m q = record {
       leads = λ a h. is_found (stays q h) (emits_in img s R d i st hl hp he (plain i) end (L.all_of (plain i) end (rw (exprs_more img (expr_at d img) 65536 p e more fits (omega arith))
           (found_later (told img want) _ c.goes b (found_first (told img want) _ (goes_word _ k.reserved) m (found_own (own_say (each_more _ _ refl each_none))))))));
       ready = λ y. absurd (omega (arith, sym (ap (λ (x : Step). x.way) q) ∙ y));
@@ -89,8 +89,8 @@ logs_end {img} {t} {N} {s} {R} {d} {i} {l} {e} {p₀} {st} {want} {p} {end} L hl
 
 -- The statements of a List from the one at p on, and there is room for their names.
 pub record Rest (img t N s₀ : List ℕ) (R : Rules) (d e p₀ : ℕ) (st : St) (want : ℕ) (s : List ℕ) (p : ℕ) (z : St) : Type 0 where
-  pub all_of : (a : Spot) (end : ℕ) → Found (told img want) (gen-stmts (rules_of R) (contract_at img) (stmts_from 65536 (stmt_at_lem d img) img p e) (scope_in img s) z.next) (tally z) end want a
-      → Found (told img want) (gen-stmts (rules_of R) (contract_at img) (stmts_from 65536 (stmt_at_lem d img) img p₀ e) (scope_in img s₀) st.next) (tally st) end want a
+  pub all_of : (a : Spot) (end : ℕ) → Found (told img want) (gen_stmts_lem (rules_of R) (contract_at img) (stmts_from 65536 (stmt_at_lem d img) img p e) (scope_in img s) z.next) (tally z) end want a
+      → Found (told img want) (gen_stmts_lem (rules_of R) (contract_at img) (stmts_from 65536 (stmt_at_lem d img) img p₀ e) (scope_in img s₀) st.next) (tally st) end want a
   pub ready : Ready img t N s (vars-stmts (stmts_from 65536 (stmt_at_lem d img) img p e))
   pub long : length s ≡ length s₀
 
@@ -107,7 +107,7 @@ module _ {img t N s₀ : List ℕ} {R : Rules} {d e p₀ : ℕ} {st : St} {want 
   rest_ready = fewer (rw next at L.ready) (omega arith)
 
   pub rest_go : {q : ℕ} {v : St} {s' : List ℕ} → q ≡ after img p → Counted R img d p z s v s' → length s' ≡ length s → v.n ≤ want → Rest img t N s₀ R d e p₀ st want s' q v
-  unfolding gen-stmts vars-stmts
+  unfolding gen_stmts_lem vars-stmts
   rest_go {q} {v} {s'} f c m b = record {
     all_of = λ a end h. L.all_of a end (rw next (found_later (told img want) _ c.goes b (rw f at h)));
     ready = rw f (behind' (rw next at L.ready) c.frame m);
@@ -120,23 +120,23 @@ module _ {img t N s₀ : List ℕ} {R : Rules} {d e p₀ : ℕ} {st : St} {want 
   module _ {l end : ℕ} {r : Step} (hp : p₀ ≡ inside img l) (he : e ≡ after img l) where
     -- in this one, the scope put back
     pub rest_in : {v : St} {s' : List ℕ} → Counted R img d p z s v s' → length s' ≡ length s → want < v.n → r ≡ within p v.n z → Reaches img t N s₀ (set s' 0 (get_or s 0 0)) R d l st end want r
-    unfolding gen-stmts vars-stmts
+    unfolding gen_stmts_lem vars-stmts
     rest_in {v} {s'} c m b q =
         let g : 0 < length s' = omega (arith, m, L.ready.size) in
         record {
           leads = λ a w h.
-              let k = subst (λ (x : Step). Found (told img want) (gen-stmt (rules_of R) (contract_at img) (stmt_at_lem d img x.place) (scope_in img (set s' 0 (get_or s 0 0))) x.st.next) (tally x.st) x.to want a) q h in
+              let k = subst (λ (x : Step). Found (told img want) (gen_stmt_lem (rules_of R) (contract_at img) (stmt_at_lem d img x.place) (scope_in img (set s' 0 (get_or s 0 0))) x.st.next) (tally x.st) x.to want a) q h in
               record { found = rw (← hp, ← he) (L.all_of a end (rw next (found_first (told img want) _ c.goes b (rw (← put_back img c.frame g) k)))) };
           ready = λ w. subst (λ (x : Step). Ready img t N (set s' 0 (get_or s 0 0)) (vars (stmt_at_lem d img x.place))) (sym q) (restored s' g m rest_ready);
           absent = λ a w. absurd (w (ap (λ (x : Step). x.way) q));
         }
 
     -- the last one needs no count
-    pub rest-last : {x : ℕ} → x ≡ after img p → e ≤ x → r ≡ within p end z → Reaches img t N s₀ s R d l st end want r
-    unfolding gen-stmts
-    rest-last f b q = record {
+    pub rest_last : {x : ℕ} → x ≡ after img p → e ≤ x → r ≡ within p end z → Reaches img t N s₀ s R d l st end want r
+    unfolding gen_stmts_lem
+    rest_last f b q = record {
       leads = λ a w h.
-          let k = subst (λ (x : Step). Found (told img want) (gen-stmt (rules_of R) (contract_at img) (stmt_at_lem d img x.place) (scope_in img s) x.st.next) (tally x.st) x.to want a) q h in
+          let k = subst (λ (x : Step). Found (told img want) (gen_stmt_lem (rules_of R) (contract_at img) (stmt_at_lem d img x.place) (scope_in img s) x.st.next) (tally x.st) x.to want a) q h in
           let c : e ≤ after img p = rw f at b in
           record { found = rw (← hp, ← he) (L.all_of a end (rw (next, stmts_none img (stmt_at_lem d img) 65536 (after img p) e c) (found_last (told img want) _ _ (λ z. long_done _) k))) };
       ready = λ w. subst (λ (x : Step). Ready img t N s (vars (stmt_at_lem d img x.place))) (sym q) rest_ready;
@@ -145,7 +145,7 @@ module _ {img t N s₀ : List ℕ} {R : Rules} {d e p₀ : ℕ} {st : St} {want 
 
 pub rest_end : {img t N s₀ : List ℕ} {R : Rules} {d e p₀ : ℕ} {st : St} {want : ℕ} {s : List ℕ} {p l end : ℕ} {z j : St} {r : Step} → Rest img t N s₀ R d e p₀ st want s p z → p₀ ≡ inside img l → e ≡ after img l → e ≤ p
     → r ≡ owned l j → Reaches img t N s₀ s R d l st end want r
-unfolding gen-stmts
+unfolding gen_stmts_lem
 rest_end {img} {t} {N} {s₀} {R} {d} {e} {p₀} {st} {want} {s} {p} {l} {end} L hp he b q = record {
   leads = λ a w h. absurd (omega (arith, sym (ap (λ (x : Step). x.way) q) ∙ w));
   ready = λ w. absurd (omega (arith, sym (ap (λ (x : Step). x.way) q) ∙ w));
@@ -174,7 +174,7 @@ module _ (img : List ℕ) (d i : ℕ) {x : ℕ} (small : length img ≤ 65536) (
   alone_ready h = rw alone (fewer h (omega arith))
 
   pub alone_counted : {R : Rules} {st r : St} {c c' : Sinks} {s s' : List ℕ} → DoesAll R img (stmts_from 65536 (stmt_at_lem d img) img i x) st c s r c' s' → Counted R img d i st s r s'
-  unfolding gen-stmts vars-stmts
+  unfolding gen_stmts_lem vars-stmts
   alone_counted h =
       let f = h.frame in
       let most = rw alone at f.most in
@@ -194,19 +194,19 @@ module _ (img : List ℕ) (d i : ℕ) {k : ℕ} (K : StmtKind) (e : k ≡ kind_a
 
 pub kind_own : {img t N s : List ℕ} {R : Rules} {d i k : ℕ} {st j : St} {end want : ℕ} {r : Step} → k ≡ kind_at img i → (k ≡ 32 → ⊥) → (k ≡ 33 → ⊥) → (k ≡ 34 → ⊥) → (k ≡ 35 → ⊥) → (k ≡ 36 → ⊥) → (k ≡ 37 → ⊥) → (k ≡ 38 → ⊥)
     → (k ≡ 39 → ⊥) → (k ≡ 40 → ⊥) → (k ≡ 41 → ⊥) → (k ≡ 42 → ⊥) → r ≡ owned i j → Steps img t N s s R d i st end want r
-unfolding stmt_as gen-stmt
+unfolding stmt_as gen_stmt_lem
 kind_own {img} {t} {N} {s} {R} {d} {i} {k} e a b c f g h m n o p q z = kind_in img d i sOther e (other k a b c f g h m n o p q) (record {
   leads = λ a h. found_none _;
   ready = λ y. absurd (omega (arith, sym (ap (λ (x : Step). x.way) z) ∙ y));
 })
 
 -- With no depth left there is no word.
-silent : {S : Type 0} {f : Open → S} {a : S} (R : Target) (C : Contract) (img : List ℕ) (k p e : ℕ) (s : Scope) (n : ℕ) → Own f a (gen-stmts R C (stmts_from k (stmt_at_lem 0 img) img p e) s n)
-unfolding gen-stmts gen-stmt stmts_from stmt_at_lem
+silent : {S : Type 0} {f : Open → S} {a : S} (R : Target) (C : Contract) (img : List ℕ) (k p e : ℕ) (s : Scope) (n : ℕ) → Own f a (gen_stmts_lem R C (stmts_from k (stmt_at_lem 0 img) img p e) s n)
+unfolding gen_stmts_lem gen_stmt_lem stmts_from stmt_at_lem
 silent R C img zero p e s n = own_done _
 silent {S} {f} {a} R C img (suc k) p e s n = go (ltb p e) (λ d. silent R C img k (after img p) e d.scope d.next)
   where
-    go : (b : Bool) → ((d : Here) → Own f a (gen-stmts R C (stmts_from k (stmt_at_lem 0 img) img (after img p) e) d.scope d.next)) → Own f a (gen-stmts R C (when b (λ _. Stmts.more (Stmt.no-stmt p) (stmts_from k (stmt_at_lem 0 img) img (after img p) e)) Stmts.none) s n)
+    go : (b : Bool) → ((d : Here) → Own f a (gen_stmts_lem R C (stmts_from k (stmt_at_lem 0 img) img (after img p) e) d.scope d.next)) → Own f a (gen_stmts_lem R C (when b (λ _. Stmts.more (Stmt.no-stmt p) (stmts_from k (stmt_at_lem 0 img) img (after img p) e)) Stmts.none) s n)
     go true h = own_then (own_done _) h
     go false h = own_done _
 
@@ -244,8 +244,8 @@ module _ {img t N s₀ : List ℕ} {R : Rules} {depth l : ℕ} {st : St} {end wa
   down_end a z = D.whole a (record { found = rw z (found_own (silent (rules_of R) (contract_at img) img 65536 _ _ _ _)) })
 
   module _ {s₂ : List ℕ} {u : Step} (f : Falls img t N s s₂ R d b want u) where
-    pub down-settled : {e : ℕ} {a : Spot} → e ≡ d - 1 → Ends img s₂ R e want u a → Blocks img s₀ R depth l st end want a
-    down-settled {e} {a} g k = D.whole a (f.leads a (rw g at k))
+    pub down_settled : {e : ℕ} {a : Spot} → e ≡ d - 1 → Ends img s₂ R e want u a → Blocks img s₀ R depth l st end want a
+    down_settled {e} {a} g k = D.whole a (f.leads a (rw g at k))
 
-    pub down-go : {e : ℕ} → e ≡ d - 1 → u.way ≡ 4 → length s₂ ≡ length s → Down img t N s₀ R depth l st end want s₂ e u
-    down-go {e} g v m = record { whole = λ a k. D.whole a (f.leads a (rw g at (block v k))); ready = rw g (f.ready v); long = m ∙ D.long }
+    pub down_go : {e : ℕ} → e ≡ d - 1 → u.way ≡ 4 → length s₂ ≡ length s → Down img t N s₀ R depth l st end want s₂ e u
+    down_go {e} g v m = record { whole = λ a k. D.whole a (f.leads a (rw g at (block v k))); ready = rw g (f.ready v); long = m ∙ D.long }

@@ -11,7 +11,7 @@ use Rattle.rules.specs.Read.{expr_at, StmtKind, stmt_at_lem, body_at, else_at, c
 use Rattle.bounds.specs.Sizes.{vars, vars-stmts}
 use Rattle.emit.specs.declared.St.{St}
 use Rattle.emit.specs.declared.Rules.{Rules}
-use Rattle.emit.specs.Steps.{gen-stmt, gen-stmts}
+use Rattle.emit.specs.Steps.{gen_stmt_lem, gen_stmts_lem}
 use Rattle.emit.specs.State.{rules_of, tally, Keeps}
 use Rattle.expr.specs.Scope.{scope_in}
 use Rattle.stmt.specs.Frame.{Ready, Frame}
@@ -31,12 +31,12 @@ within p e s = record { place = p; way = 5; to = e; st = s }
 
 -- count_stmt
 pub record Counted (R : Rules) (img : List ℕ) (d i : ℕ) (st : St) (s : List ℕ) (r : St) (s' : List ℕ) : Type 0 where
-  pub goes : Goes (tally st) (tally r) (here (scope_in img s') r.next) (gen-stmt (rules_of R) (contract_at img) (stmt_at_lem d img i) (scope_in img s) st.next)
+  pub goes : Goes (tally st) (tally r) (here (scope_in img s') r.next) (gen_stmt_lem (rules_of R) (contract_at img) (stmt_at_lem d img i) (scope_in img s) st.next)
   pub frame : Frame s s' (vars (stmt_at_lem d img i))
 
 -- count_stmts
 pub record CountedAll (R : Rules) (img : List ℕ) (d l : ℕ) (st : St) (s : List ℕ) (r : St) (s' : List ℕ) : Type 0 where
-  pub goes : Goes (tally st) (tally r) (here (scope_in img s') r.next) (gen-stmts (rules_of R) (contract_at img) (body_at (stmt_at_lem d img) img l) (scope_in img s) st.next)
+  pub goes : Goes (tally st) (tally r) (here (scope_in img s') r.next) (gen_stmts_lem (rules_of R) (contract_at img) (body_at (stmt_at_lem d img) img l) (scope_in img s) st.next)
   pub frame : Frame s s' (vars-stmts (body_at (stmt_at_lem d img) img l))
   pub grows : st.n ≤ r.n
 
@@ -47,7 +47,7 @@ pub data CountedElse (R : Rules) (img : List ℕ) (d l e : ℕ) (st : St) (s : L
 
 -- a is the spot of word number `want`, in the List of statements at l, which ends before word number `end`
 pub record Blocks (img s : List ℕ) (R : Rules) (d l : ℕ) (st : St) (end want : ℕ) (a : Spot) : Type 0 where
-  pub found : Found (told img want) (gen-stmts (rules_of R) (contract_at img) (body_at (stmt_at_lem d img) img l) (scope_in img s) st.next) (tally st) end want a
+  pub found : Found (told img want) (gen_stmts_lem (rules_of R) (contract_at img) (body_at (stmt_at_lem d img) img l) (scope_in img s) st.next) (tally st) end want a
 
 pub data Ends (img s : List ℕ) (R : Rules) (d want : ℕ) (r : Step) (a : Spot) : Type 0 where
   owns : (r.way ≡ 3 → ⊥) → (r.way ≡ 4 → ⊥) → spot_in_lem r ≡ a → Ends img s R d want r a
@@ -63,17 +63,17 @@ pub data Loops (i l next k : ℕ) (v : St) (end want : ℕ) (r : Step) : Type 0 
 
 -- in_if, ..: from the record at i, taken as a statement of a kind, whose parts are d records deep at most
 pub record Moves (img t N s s' : List ℕ) (R : Rules) (d : ℕ) (K : StmtKind) (i : ℕ) (st : St) (end want : ℕ) (r : Step) : Type 0 where
-  pub leads : (a : Spot) → Ends img s' R d want r a → Found (told img want) (gen-stmt (rules_of R) (contract_at img) (taken K d img i) (scope_in img s) st.next) (tally st) end want a
+  pub leads : (a : Spot) → Ends img s' R d want r a → Found (told img want) (gen_stmt_lem (rules_of R) (contract_at img) (taken K d img i) (scope_in img s) st.next) (tally st) end want a
   pub ready : r.way ≡ 4 → Ready img t N s' (vars-stmts (body_at (stmt_at_lem d img) img r.place))
 
 -- step_stmt: by its own kind
 pub record Steps (img t N s s' : List ℕ) (R : Rules) (d i : ℕ) (st : St) (end want : ℕ) (r : Step) : Type 0 where
-  pub leads : (a : Spot) → Ends img s' R d want r a → Found (told img want) (gen-stmt (rules_of R) (contract_at img) (stmt_at_lem (suc d) img i) (scope_in img s) st.next) (tally st) end want a
+  pub leads : (a : Spot) → Ends img s' R d want r a → Found (told img want) (gen_stmt_lem (rules_of R) (contract_at img) (stmt_at_lem (suc d) img i) (scope_in img s) st.next) (tally st) end want a
   pub ready : r.way ≡ 4 → Ready img t N s' (vars-stmts (body_at (stmt_at_lem d img) img r.place))
 
 -- step_block: a statement of the List, or none: then there is no such word
 pub record Reaches (img t N s s' : List ℕ) (R : Rules) (d l : ℕ) (st : St) (end want : ℕ) (r : Step) : Type 0 where
-  pub leads : (a : Spot) → r.way ≡ 5 → Found (told img want) (gen-stmt (rules_of R) (contract_at img) (stmt_at_lem d img r.place) (scope_in img s') r.st.next) (tally r.st) r.to want a
+  pub leads : (a : Spot) → r.way ≡ 5 → Found (told img want) (gen_stmt_lem (rules_of R) (contract_at img) (stmt_at_lem d img r.place) (scope_in img s') r.st.next) (tally r.st) r.to want a
       → Blocks img s R d l st end want a
   pub ready : r.way ≡ 5 → Ready img t N s' (vars (stmt_at_lem d img r.place))
   pub absent : (a : Spot) → (r.way ≡ 5 → ⊥) → Blocks img s R d l st end want a

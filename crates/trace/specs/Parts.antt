@@ -24,7 +24,7 @@ use Rattle.bounds.specs.Sizes.{vars, vars-stmts}
 use Rattle.emit.specs.declared.St.{St}
 use Rattle.emit.specs.declared.Rules.{Rules}
 use Rattle.emit.specs.Steps as emitting
-use Rattle.emit.specs.Steps.{Out, ◌>>=◌, done, say, ask, at, Here, looping, gen-stmt, gen-stmts}
+use Rattle.emit.specs.Steps.{Out, ◌>>=◌, done, say, ask, at, Here, looping, gen_stmt_lem, gen_stmts_lem}
 use Rattle.emit.specs.Ran.{Tally}
 use Rattle.emit.specs.State.{rules_of, tally, fresh, Takes, Keeps}
 use Rattle.rules.specs.Generate.{alloc_reg_lem}
@@ -41,7 +41,7 @@ use Rattle.seek.specs.Spots as spots
 use Rattle.seek.specs.Spots.{plain, ahead, spot_of, told, owned, leaping, into, spot_in_lem, steps, Counts, Finds, Ans, Row}
 use Rattle.seek.specs.Parts.{is_found, deep, into_first, row_own, takes_fresh, fresh_own, fresh_past}
 use Rattle.trace.specs.Moves.{entering, CountedAll, CountedElse, other, none, Blocks, Ends, owns, value, block, Loops, jnz, jmp, back, body, Moves}
-use Rattle.trace.specs.Turns.{found_last, behind_is, behind_own, behind_in, loop_cond, loop-jnz, loop-jmp, loop-back, loop-in}
+use Rattle.trace.specs.Turns.{found_last, behind_is, behind_own, behind_in, loop_cond, loop_jnz, loop_jmp, loop_back, loop_in}
 
 -- A step that is known to stay, or to leap.
 module _ {img s : List ℕ} {R : Rules} {d want : ℕ} {r : Step} {a : Spot} where
@@ -83,37 +83,37 @@ row_block (spots.behind t c l e) f = omega (arith, sym (ap (λ (x : Step). x.way
 module _ {img t N s : List ℕ} {R : Rules} {d want end i : ℕ} {st : St} {r : Step} where
   -- one value, and the statement's own words behind it
   pub let_in : {x y : ℕ} → x ≡ inside img i → y ≡ after img x → Row img s R d y i st want r → Moves img t N s s R d sLet i st end want r
-  unfolding stmt_as gen-stmt spot_of
+  unfolding stmt_as gen_stmt_lem spot_of
   let_in e f w = record {
     leads = λ a h. rw (← e, ← f) (row_own w _ (λ v. own_pick _ (own_done _) (own_pick _ (own_asks _ (λ x. own_says (each_more _ _ refl each_none) (λ y. own_done _))) (own_done _))) (ends_ans w h));
     ready = λ q. absurd (row_block w q);
   }
 
   pub constrain_in : {x : ℕ} → x ≡ inside img i → Row img s R d x i st want r → Moves img t N s s R d sConstrain i st end want r
-  unfolding stmt_as gen-stmt spot_of
+  unfolding stmt_as gen_stmt_lem spot_of
   constrain_in e w = record { leads = λ a h. rw (← e) (row_own w _ (λ v. own_says (each_more _ _ refl each_none) (λ y. own_done _)) (ends_ans w h)); ready = λ q. absurd (row_block w q) }
 
   pub assign_in : {x y : ℕ} → x ≡ inside img i → y ≡ after img x → Row img s R d y i st want r → Moves img t N s s R d sAssign i st end want r
-  unfolding stmt_as gen-stmt spot_of
+  unfolding stmt_as gen_stmt_lem spot_of
   assign_in e f w = record {
     leads = λ a h. rw (← e, ← f) (row_own w _ (λ v. own_asks _ (λ x. own_says (each_more _ _ refl each_none) (λ y. own_done _))) (ends_ans w h));
     ready = λ q. absurd (row_block w q);
   }
 
   pub storage_in : {x y : ℕ} → x ≡ inside img i → y ≡ after img x → Row img s R d y i st want r → Moves img t N s s R d sStorage i st end want r
-  unfolding stmt_as gen-stmt spot_of
+  unfolding stmt_as gen_stmt_lem spot_of
   storage_in e f w = record {
     leads = λ a h. rw (← e, ← f) (row_own w _ (λ v. own_asks _ (λ x. own_says (each_more _ _ refl each_none) (λ y. own_done _))) (ends_ans w h));
     ready = λ q. absurd (row_block w q);
   }
 
   pub just_in : {x : ℕ} → x ≡ inside img i → Row img s R d x i st want r → Moves img t N s s R d sExpr i st end want r
-  unfolding stmt_as gen-stmt
+  unfolding stmt_as gen_stmt_lem
   just_in e w = record { leads = λ a h. rw (← e) (row_own w _ (λ v. own_done _) (ends_ans w h)); ready = λ q. absurd (row_block w q) }
 
   -- MappingWrite
   pub mapping_left : {x y : ℕ} {v : St} → x ≡ inside img i → y ≡ after img x → Counts img s R d y st v → want < v.n → r ≡ into y v.n st → Moves img t N s s R d sMapping i st end want r
-  unfolding stmt_as gen-stmt
+  unfolding stmt_as gen_stmt_lem
   mapping_left e f c l q = record {
     leads = λ a h. rw (← e, ← f) (found_asked _ (λ k. into_first c l q (ends_into q h) _));
     ready = λ z. absurd (omega (arith, sym (ap (λ (x : Step). x.way) q) ∙ z));
@@ -121,7 +121,7 @@ module _ {img t N s : List ℕ} {R : Rules} {d want end i : ℕ} {st : St} {r : 
 
   pub mapping_right : {x y z : ℕ} {v : St} → x ≡ inside img i → y ≡ after img x → z ≡ after img y → Counts img s R d y st v → v.n ≤ want → Row img s R d z i v want r
       → Moves img t N s s R d sMapping i st end want r
-  unfolding stmt_as gen-stmt spot_of
+  unfolding stmt_as gen_stmt_lem spot_of
   mapping_right e f g c l w = record {
     leads = λ a h. rw (← e, ← f, ← g) (found_asked _ (λ k. found_later (told img want) _ c.goes l (row_own w _ (λ u.
         own_asks _ (λ b. own_says (each_more _ _ refl each_none) (λ y. own_asks _ (λ t. own_says (each_more _ _ refl (each_more _ _ refl each_none)) (λ z. own_done _))))) (ends_ans w h))));
@@ -130,18 +130,18 @@ module _ {img t N s : List ℕ} {R : Rules} {d want end i : ℕ} {st : St} {r : 
 
   -- Return
   pub return_first : {a z q : St} → Takes R st a i → Keeps a q → want < q.n → r ≡ owned i z → Moves img t N s s R d sReturn i st end want r
-  unfolding stmt_as gen-stmt spot_of
+  unfolding stmt_as gen_stmt_lem spot_of
   return_first {a} {z} {q} k p l e = record {
     leads = λ y h. is_found (stays e h) (go (ltb (inside img i) (after img i)));
     ready = λ y. absurd (omega (arith, sym (ap (λ (x : Step). x.way) e) ∙ y));
   }
     where
-      go : (b : Bool) → Found (told img want) (gen-stmt (rules_of R) (contract_at img) (when b (λ _. Stmt.return i (expr_at d img (inside img i))) (Stmt.return-none i)) (scope_in img s) st.next) (tally st) end want (plain i)
+      go : (b : Bool) → Found (told img want) (gen_stmt_lem (rules_of R) (contract_at img) (when b (λ _. Stmt.return i (expr_at d img (inside img i))) (Stmt.return-none i)) (scope_in img s) st.next) (tally st) end want (plain i)
       go true = fresh_own (told img want) _ (λ x. pop i x) _ (takes_fresh (contract_at img) _ k p) (λ x. refl) l
       go false = fresh_own (told img want) _ (λ x. pop i x) _ (takes_fresh (contract_at img) _ k p) (λ x. refl) l
 
   pub return_value : {x e : ℕ} {a q : St} → x ≡ inside img i → e ≡ after img i → x < e → Takes R st a i → Keeps a q → q.n ≤ want → Row img s R d x i q want r → Moves img t N s s R d sReturn i st end want r
-  unfolding gen-stmt spot_of
+  unfolding gen_stmt_lem spot_of
   return_value {x} {e} {a} {q} f g b k p l w = record {
     leads = λ y h.
         let n : q.next ≡ suc (a.reg % 256) = p.next ∙ k.next in
@@ -152,7 +152,7 @@ module _ {img t N s : List ℕ} {R : Rules} {d want end i : ℕ} {st : St} {r : 
   }
 
   pub return_rest : {x e : ℕ} {z : St} → x ≡ inside img i → e ≡ after img i → e ≤ x → r ≡ owned i z → Moves img t N s s R d sReturn i st end want r
-  unfolding gen-stmt spot_of
+  unfolding gen_stmt_lem spot_of
   return_rest {x} {e} f g b q = record {
     leads = λ y h.
         let c : after img i ≤ inside img i = rw (f, g) at b in
@@ -163,7 +163,7 @@ module _ {img t N s : List ℕ} {R : Rules} {d want end i : ℕ} {st : St} {r : 
 
   -- While
   pub while_cond : {x : ℕ} {v : St} → x ≡ inside img i → Counts img s R d x st v → want < v.n → r ≡ into x v.n st → Moves img t N s s R d sWhile i st end want r
-  unfolding stmt_as gen-stmt
+  unfolding stmt_as gen_stmt_lem
   while_cond {x} {v} e c l q = record {
     leads = λ a h. rw (← e) (loop_cond (told img want) i _ _ c.goes l (part_of q (ends_into q h)));
     ready = λ z. absurd (omega (arith, sym (ap (λ (x : Step). x.way) q) ∙ z));
@@ -171,21 +171,21 @@ module _ {img t N s : List ℕ} {R : Rules} {d want end i : ℕ} {st : St} {r : 
 
   pub while_loop : {x y : ℕ} {v : St} → x ≡ inside img i → y ≡ after img x → Ready img t N s (vars (taken sWhile d img i)) → Counts img s R d x st v → v.n ≤ want → Loops i y st.next 1 v end want r
       → Moves img t N s s R d sWhile i st end want r
-  unfolding stmt_as gen-stmt spot_of landing vars
+  unfolding stmt_as gen_stmt_lem spot_of landing vars
   while_loop {x} {y} {v} e f z c l (jnz j a k o b q) = record {
-    leads = λ p h. is_found (leaps q h) (rw (← e, ← f) (loop-jnz (told img want) i _ _ c.goes k.reserved o.reserved l b (λ g w n. ap (ahead i) (omega (arith, w, n)))));
+    leads = λ p h. is_found (leaps q h) (rw (← e, ← f) (loop_jnz (told img want) i _ _ c.goes k.reserved o.reserved l b (λ g w n. ap (ahead i) (omega (arith, w, n)))));
     ready = λ m. absurd (omega (arith, sym (ap (λ (x : Step). x.way) q) ∙ m));
   }
   while_loop {x} {y} {v} e f z c l (jmp j a k o b g q) = record {
-    leads = λ p h. is_found (leaps q h) (rw (← e, ← f) (loop-jmp (told img want) i _ _ c.goes k.reserved o.reserved b g (λ n w. ap (ahead i) w)));
+    leads = λ p h. is_found (leaps q h) (rw (← e, ← f) (loop_jmp (told img want) i _ _ c.goes k.reserved o.reserved b g (λ n w. ap (ahead i) w)));
     ready = λ m. absurd (omega (arith, sym (ap (λ (x : Step). x.way) q) ∙ m));
   }
   while_loop {x} {y} {v} e f z c l (back j a k o b g q) = record {
-    leads = λ p h. is_found (stays q h) (rw (← e, ← f) (loop-back (told img want) i _ _ c.goes k.reserved o.reserved b (leb-true _ _ g) (λ n. refl)));
+    leads = λ p h. is_found (stays q h) (rw (← e, ← f) (loop_back (told img want) i _ _ c.goes k.reserved o.reserved b (leb-true _ _ g) (λ n. refl)));
     ready = λ m. absurd (omega (arith, sym (ap (λ (x : Step). x.way) q) ∙ m));
   }
   while_loop {x} {y} {v} e f z c l (body j a k o b g q) = record {
-    leads = λ p h. rw (← e, ← f) (loop-in (told img want) i _ _ c.goes k.reserved o.reserved b (leb-false _ _ g) (rw (← o.next) (enters q h).found));
+    leads = λ p h. rw (← e, ← f) (loop_in (told img want) i _ _ c.goes k.reserved o.reserved b (leb-false _ _ g) (rw (← o.next) (enters q h).found));
     ready = λ m. let u = rw (← e, ← f) at z in subst (λ (x : Step). Ready img t N s (vars-stmts (body_at (stmt_at_lem d img) img x.place))) (sym q) u;
   }
 
@@ -218,10 +218,10 @@ module _ {img s u : List ℕ} {R : Rules} {d i x y z stop : ℕ} {st v a e b : S
       λ j. Stmt.if_else i (expr_at d img (sym B.cond j)) (body_at (stmt_at_lem d img) img (f j)) (else_at (stmt_at_lem d img) img (g j) (sym B.ends j))
 
   abbrev others : Res (Out Here)
-  others = gen-stmts (rules_of R) (contract_at img) (else_at (stmt_at_lem d img) img z stop) (scope_in img s) st.next
+  others = gen_stmts_lem (rules_of R) (contract_at img) (else_at (stmt_at_lem d img) img z stop) (scope_in img s) st.next
 
   goes_else : Goes (tally a) (tally e) (here (scope_in img u) e.next) others
-  unfolding gen-stmts
+  unfolding gen_stmts_lem
   goes_else = go B.counted
     where
       go : CountedElse R img d z stop a s e u → Goes (tally a) (tally e) (here (scope_in img u) e.next) others
@@ -238,15 +238,15 @@ module _ {img s u : List ℕ} {R : Rules} {d i x y z stop : ℕ} {st v a e b : S
   over_else = emitting.behind (λ ws. jumps (length ws) ∷ ws) others
 
   abbrev over_then : Here → Res (Out Here)
-  over_then h = emitting.behind (λ ws. skips (length ws) ∷ ws) (gen-stmts (rules_of R) (contract_at img) (body_at (stmt_at_lem d img) img y) h.scope h.next)
+  over_then h = emitting.behind (λ ws. skips (length ws) ∷ ws) (gen_stmts_lem (rules_of R) (contract_at img) (body_at (stmt_at_lem d img) img y) h.scope h.next)
 
   goes_jnz : Goes (tally v) (tally e) (here (scope_in img u) e.next) over_else
   goes_jnz = goes_behind jumps B.opens.reserved goes_else
 
   -- what is found behind the condition is found in the statement
   whole : {want end : ℕ} {p : Spot} → v.n ≤ want → Found (told img want) (over_else >>= over_then) (tally v) end want p
-      → Found (told img want) (gen-stmt (rules_of R) (contract_at img) (taken sIf d img i) (scope_in img s) st.next) (tally st) end want p
-  unfolding gen-stmt
+      → Found (told img want) (gen_stmt_lem (rules_of R) (contract_at img) (taken sIf d img i) (scope_in img s) st.next) (tally st) end want p
+  unfolding gen_stmt_lem
   whole {want} l h = rw parts_are (found_later (told img want) _ B.counts.goes l h)
 
   -- the Jnz, over `else`
@@ -313,7 +313,7 @@ module _ {img t N s u : List ℕ} {R : Rules} {d want end i x y z stop : ℕ} {s
           }
 
 pub if_cond : {img t N s : List ℕ} {R : Rules} {d want end i x : ℕ} {st v : St} {r : Step} → x ≡ inside img i → Counts img s R d x st v → want < v.n → r ≡ into x v.n st → Moves img t N s s R d sIf i st end want r
-unfolding stmt_as gen-stmt
+unfolding stmt_as gen_stmt_lem
 if_cond e c l q = record {
   leads = λ a h. rw (← e) (into_first c l q (ends_into q h) _);
   ready = λ z. absurd (omega (arith, sym (ap (λ (x : Step). x.way) q) ∙ z));
@@ -351,7 +351,7 @@ module _ {img s : List ℕ} {R : Rules} {d i x y z q : ℕ} {st v w a n c l : St
   step_on h = ask (alloc_reg_lem (rules_of R) (contract_at img) i h.next) >>= λ o. say (load i o 1 ∷ add i number number o ∷ []) >>= λ u. done (here (scope_in img s) st.next)
 
   abbrev inner : Res (Out Here)
-  inner = gen-stmts (rules_of R) (contract_at img) (body_at (stmt_at_lem d img) img q) (with_name (name_at img x) number (scope_in img s)) (suc number)
+  inner = gen_stmts_lem (rules_of R) (contract_at img) (body_at (stmt_at_lem d img) img q) (with_name (name_at img x) number (scope_in img s)) (suc number)
 
   abbrev turns : Res (Out Here)
   turns = looping i less (λ c. inner >>= step_on)
@@ -361,8 +361,8 @@ module _ {img s : List ℕ} {R : Rules} {d i x y z q : ℕ} {st v w a n c l : St
 
   -- what is found behind the Add is found in the statement
   in_turns : {want end : ℕ} {p : Spot} → v.n ≤ want → w.n ≤ want → n.n ≤ want → Found (told img want) turns (tally n) end want p
-      → Found (told img want) (gen-stmt (rules_of R) (contract_at img) (taken sFor d img i) (scope_in img s) st.next) (tally st) end want p
-  unfolding gen-stmt
+      → Found (told img want) (gen_stmt_lem (rules_of R) (contract_at img) (taken sFor d img i) (scope_in img s) st.next) (tally st) end want p
+  unfolding gen_stmt_lem
   in_turns {want} b e f h = rw for_is (found_later (told img want) _ H.begins.goes b (found_later (told img want) _ H.ends.goes e
       (fresh_past (told img want) _ (λ k. add i k (v.reg % 256) 0) _ (takes_fresh (contract_at img) _ H.takes H.keeps) f (found_last (told img want) turns _ (λ u. long_done _) h))))
 
@@ -375,14 +375,14 @@ module _ {img s : List ℕ} {R : Rules} {d i x y z q : ℕ} {st v w a n c l : St
 
 module _ {img t N s : List ℕ} {R : Rules} {d want end i : ℕ} {st : St} {r : Step} where
   pub for_from : {x y : ℕ} {v : St} → x ≡ inside img i → y ≡ after img x → Counts img s R d y st v → want < v.n → r ≡ into y v.n st → Moves img t N s s R d sFor i st end want r
-  unfolding stmt_as gen-stmt
+  unfolding stmt_as gen_stmt_lem
   for_from e f k b u = record {
     leads = λ p h. rw (← e, ← f) (into_first k b u (ends_into u h) _);
     ready = λ m. absurd (omega (arith, sym (ap (λ (x : Step). x.way) u) ∙ m));
   }
 
   pub for_to : {x y z : ℕ} {v w : St} → x ≡ inside img i → y ≡ after img x → z ≡ after img y → Counts img s R d y st v → v.n ≤ want → Counts img s R d z v w → want < w.n → r ≡ into z w.n v → Moves img t N s s R d sFor i st end want r
-  unfolding stmt_as gen-stmt
+  unfolding stmt_as gen_stmt_lem
   for_to e f g k b m o u = record {
     leads = λ p h. rw (← e, ← f, ← g) (found_later (told img want) _ k.goes b (into_first m o u (ends_into u h) _));
     ready = λ m. absurd (omega (arith, sym (ap (λ (x : Step). x.way) u) ∙ m));
@@ -390,7 +390,7 @@ module _ {img t N s : List ℕ} {R : Rules} {d want end i : ℕ} {st : St} {r : 
 
   pub for_add : {x y z : ℕ} {v w a n j : St} → x ≡ inside img i → y ≡ after img x → z ≡ after img y → Counts img s R d y st v → v.n ≤ want → Counts img s R d z v w → w.n ≤ want → Takes R w a i → Keeps a n → want < n.n → r ≡ owned i j
       → Moves img t N s s R d sFor i st end want r
-  unfolding stmt_as gen-stmt spot_of
+  unfolding stmt_as gen_stmt_lem spot_of
   for_add {x} {y} {z} {v} e f g k b m o j p h u = record {
     leads = λ y q. is_found (stays u q) (rw (← e, ← f, ← g) (found_later (told img want) _ k.goes b (found_later (told img want) _ m.goes o
         (fresh_own (told img want) _ (λ k. add i k (v.reg % 256) 0) _ (takes_fresh (contract_at img) _ j p) (λ k. refl) h))));
@@ -409,11 +409,11 @@ pub for_loop : {img t N s s' : List ℕ} {R : Rules} {d want end i x y z q : ℕ
     → Binds img x a.reg s s' → length s' ≡ length s → v.n ≤ want → w.n ≤ want → n.n ≤ want → l.n ≤ want → Loops i q n.next 3 l end want r → Moves img t N s s' R d sFor i st end want r
 unfolding spot_of landing vars
 for_loop {img} {t} {N} {s} {s'} {R} {d} {want} {end} {i} {x} {y} {z} {q} H f g m b e h k (jnz j u o p y' r') = record {
-  leads = λ a h'. is_found (leaps r' h') (in_turns H b e h (loop-jnz (told img want) i _ _ (goes_less H) o.reserved p.reserved k y' (λ g' w' n'. ap (ahead i) (omega (arith, w', n')))));
+  leads = λ a h'. is_found (leaps r' h') (in_turns H b e h (loop_jnz (told img want) i _ _ (goes_less H) o.reserved p.reserved k y' (λ g' w' n'. ap (ahead i) (omega (arith, w', n')))));
   ready = λ m. absurd (omega (arith, sym (ap (λ (x : Step). x.way) r') ∙ m));
 }
 for_loop {img} {t} {N} {s} {s'} {R} {d} {want} {end} {i} H f g m b e h k (jmp j u o p y' z' r') = record {
-  leads = λ a h'. is_found (leaps r' h') (in_turns H b e h (loop-jmp (told img want) i _ _ (goes_less H) o.reserved p.reserved y' z' (λ n' w'. ap (ahead i) w')));
+  leads = λ a h'. is_found (leaps r' h') (in_turns H b e h (loop_jmp (told img want) i _ _ (goes_less H) o.reserved p.reserved y' z' (λ n' w'. ap (ahead i) w')));
   ready = λ m. absurd (omega (arith, sym (ap (λ (x : Step). x.way) r') ∙ m));
 }
 for_loop {img} {t} {N} {s} {s'} {R} {d} {want} {end} {i} {x} {y} {z} {q} {st} {v} {w} {a} {n} {c} {l} {r} H f g m b e h k (back j u o p y' z' r') = record {
@@ -423,13 +423,13 @@ for_loop {img} {t} {N} {s} {s'} {R} {d} {want} {end} {i} {x} {y} {z} {q} {st} {v
   where
     -- the jump back, or one of the two words before it
     go : (y : Bool) → leb end (want + 1) ≡ y → Found (told img want) (turns H) (tally n) end want (plain i)
-    go true y = loop-back (told img want) i _ _ (goes_less H) o.reserved p.reserved y' (leb-true _ _ y) (λ n'. refl)
-    go false y = loop-in (told img want) i _ _ (goes_less H) o.reserved p.reserved y' (leb-false _ _ y) (found_back (told img want) (inner H) (step_on H) 2 (stepped H) (omega (arith, leb-true end (want + 3) z', leb-false end (want + 1) y)) (mine H want))
+    go true y = loop_back (told img want) i _ _ (goes_less H) o.reserved p.reserved y' (leb-true _ _ y) (λ n'. refl)
+    go false y = loop_in (told img want) i _ _ (goes_less H) o.reserved p.reserved y' (leb-false _ _ y) (found_back (told img want) (inner H) (step_on H) 2 (stepped H) (omega (arith, leb-true end (want + 3) z', leb-false end (want + 1) y)) (mine H want))
 for_loop {img} {t} {N} {s} {s'} {R} {d} {want} {end} {i} {x} {y} {z} {q} {st} {v} {w} {a} {n} {c} {l} {r} H f g m b e h k (body j u o p y' z' r') = record {
   leads = λ a' h'.
       let next : u.next ≡ suc (a.reg % 256) = p.next ∙ H.keeps.next ∙ H.takes.next in
       let last : end - 1 - 2 ≡ end - 3 = omega arith in
-      in_turns H b e h (loop-in (told img want) i _ _ (goes_less H) o.reserved p.reserved y' (omega (arith, leb-false end (want + 3) z'))
+      in_turns H b e h (loop_in (told img want) i _ _ (goes_less H) o.reserved p.reserved y' (omega (arith, leb-false end (want + 3) z'))
       (found_front (told img want) (inner H) (step_on H) 2 (stepped H) (omega (arith, leb-false end (want + 3) z')) (rw (last, ← g.scope, ← next) (enters r' h').found)));
   ready = λ _. subst (λ (x : Step). Ready img t N s' (vars-stmts (body_at (stmt_at_lem d img) img x.place))) (sym r') (behind_one (rw (for_is H) at f) g.frame m);
 }

@@ -1,7 +1,7 @@
 -- Blocks behind the words that jump over them.
 --     found_last                  nothing follows
 --     behind_own, behind_in       If: the jump; the block behind it
---     loop_cond, loop-jnz, loop-jmp, loop-back, loop-in       While and For: the condition, the two jumps behind it, the jump back, the block
+--     loop_cond, loop_jnz, loop_jmp, loop_back, loop_in       While and For: the condition, the two jumps behind it, the jump back, the block
 -- Assumes nothing.
 use Rattle.std.specs.Prelude.{◌≡◌, refl}
 use Rattle.std.proofs.Common.{sym, ◌∙◌, subst, arith, length-append}
@@ -140,24 +140,24 @@ module _ {S : Type 0} (f : Open → S) {s v : Tally} {x : AtReg} {end want : ℕ
   }
 
   module _ {j d : Tally} (k : Reserved v j) (m : Reserved j d) where
-    pub loop-jnz : v.n ≤ want → want < j.n → ((r : ℕ) → want ≡ v.n → d.n ≡ v.n + 2 → a ≡ f (jump p op.Jnz r (Imm.pos 2))) → Found f (looping p g body) s end want a
-    loop-jnz l y h = loop_word (λ t b r n z low w q.
+    pub loop_jnz : v.n ≤ want → want < j.n → ((r : ℕ) → want ≡ v.n → d.n ≡ v.n + 2 → a ≡ f (jump p op.Jnz r (Imm.pos 2))) → Found f (looping p g body) s end want a
+    loop_jnz l y h = loop_word (λ t b r n z low w q.
         let cj = k.count (k.low (omega (arith, low, z))) in
         let cd = m.count (m.low (omega (arith, low, z, cj))) in
         let i : length t.words + 0 ≡ want - s.n = omega (arith, n, l, y, cj) in
         h r (omega (arith, l, y, cj)) (omega (arith, cj, cd))
         ∙ ap f (some_same (sym (nth_jnz p r t.words b.words) ∙ ap (λ (e : ℕ). nth e (loops p r t.words b.words)) i ∙ q)))
 
-    pub loop-jmp : j.n ≤ want → want < d.n → ((n : ℕ) → end ≡ want + n → a ≡ f (jump p op.Jmp 0 (Imm.pos n))) → Found f (looping p g body) s end want a
-    loop-jmp l y h = loop_word (λ t b r n z low w q.
+    pub loop_jmp : j.n ≤ want → want < d.n → ((n : ℕ) → end ≡ want + n → a ≡ f (jump p op.Jmp 0 (Imm.pos n))) → Found f (looping p g body) s end want a
+    loop_jmp l y h = loop_word (λ t b r n z low w q.
         let cj = k.count (k.low (omega (arith, low, z))) in
         let cd = m.count (m.low (omega (arith, low, z, cj))) in
         let i : length t.words + 1 ≡ want - s.n = omega (arith, n, l, y, cj, cd) in
         h (length b.words + 2) (omega (arith, z, l, y, cj, cd))
         ∙ ap f (some_same (sym (nth_jmp p r t.words b.words) ∙ ap (λ (e : ℕ). nth e (loops p r t.words b.words)) i ∙ q)))
 
-    pub loop-back : d.n ≤ want → end ≤ want + 1 → ((n : ℕ) → a ≡ f (emit p op.Jmp 0 0 0 (Imm.neg n))) → Found f (looping p g body) s end want a
-    loop-back l y h = loop_word (λ t b r n z low w q.
+    pub loop_back : d.n ≤ want → end ≤ want + 1 → ((n : ℕ) → a ≡ f (emit p op.Jmp 0 0 0 (Imm.neg n))) → Found f (looping p g body) s end want a
+    loop_back l y h = loop_word (λ t b r n z low w q.
         let x = nth_low (loops p r t.words b.words) (want - s.n) w q in
         let cj = k.count (k.low (omega (arith, low, z))) in
         let cd = m.count (m.low (omega (arith, low, z, cj))) in
@@ -165,8 +165,8 @@ module _ {S : Type 0} (f : Open → S) {s v : Tally} {x : AtReg} {end want : ℕ
         h (length t.words + 2 + length b.words)
         ∙ ap f (some_same (sym (nth_back p r t.words b.words) ∙ ap (λ (e : ℕ). nth e (loops p r t.words b.words)) i ∙ q)))
 
-    pub loop-in : d.n ≤ want → want + 1 < end → Found f (body x) d (end - 1) want a → Found f (looping p g body) s end want a
-    loop-in l y h = record {
+    pub loop_in : d.n ≤ want → want + 1 < end → Found f (body x) d (end - 1) want a → Found f (looping p g body) s end want a
+    loop_in l y h = record {
       is = λ fine o e z low le w q.
           let t = turn p g body o e in
           let i = t.long in

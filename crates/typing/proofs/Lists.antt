@@ -74,24 +74,24 @@ module _ (C : Contract) (d : ℕ) (img : List ℕ) (Γ : Env) where
 
   module _ (ps : List Typ) (i : ℕ) (m : Option Misfit) where
     -- no argument more
-    pub args-done : (es : Exprs) → es ≡ Exprs.none → ok (sum i m) ≡ (sum_args C ps i es Γ >>= behind m)
+    pub args_done : (es : Exprs) → es ≡ Exprs.none → ok (sum i m) ≡ (sum_args C ps i es Γ >>= behind m)
     unfolding exprs ◌>>=◌ sum_up behind misfit
-    args-done es e = rw e (sums (omega arith) (or_none m))
+    args_done es e = rw e (sums (omega arith) (or_none m))
 
     -- one argument more, of type t
-    pub args-next : (k p e : ℕ) {t : Typ} (m' : Option Misfit) → i < k → p < e → ok t ≡ expr C (expr_at d img p) Γ → m' ≡ noted (clashes (nth i ps) t) i p m
+    pub args_next : (k p e : ℕ) {t : Typ} (m' : Option Misfit) → i < k → p < e → ok t ≡ expr C (expr_at d img p) Γ → m' ≡ noted (clashes (nth i ps) t) i p m
         → (sum_args C ps i (exprs_from (k - i) (expr_at d img) img p e) Γ >>= behind m) ≡ (sum_args C ps (i + 1) (exprs_from (k - (i + 1)) (expr_at d img) img (after img p) e) Γ >>= behind m')
     unfolding exprs ◌>>=◌
-    args-next k p e {t} m' h l q w =
+    args_next k p e {t} m' h l q w =
         let z : k - (i + 1) ≡ k - i - 1 = omega arith in
         rw (z, w, exprs_more (expr_at d img) img (k - i) p e (λ y. omega arith) l, ← q, at_place d img p)
         (one_more t (exprs C (exprs_from (k - i - 1) (expr_at d img) img (after img p) e) Γ) ps i p m)
 
     -- one that is refused
-    pub args-refused : (k p e : ℕ) {r : Refusal} → i < k → p < e → bad r ≡ expr C (expr_at d img p) Γ
+    pub args_refused : (k p e : ℕ) {r : Refusal} → i < k → p < e → bad r ≡ expr C (expr_at d img p) Γ
         → bad r ≡ (sum_args C ps i (exprs_from (k - i) (expr_at d img) img p e) Γ >>= behind m)
     unfolding exprs ◌>>=◌
-    args-refused k p e h l q = rw (exprs_more (expr_at d img) img (k - i) p e (λ y. omega arith) l, ← q)
+    args_refused k p e h l q = rw (exprs_more (expr_at d img) img (k - i) p e (λ y. omega arith) l, ← q)
 
   module _ (s : Struct) (k p e : ℕ) (h : k ≡ 0 → ⊥) (l : p < e) where
     first : Res (Unit {0})
@@ -100,18 +100,18 @@ module _ (C : Contract) (d : ℕ) (img : List ℕ) (Γ : Env) where
     rest : Res (Unit {0})
     rest = inits C s (inits_from (k - 1) (expr_at d img) img (after img p) e) Γ
 
-    inits-one : inits C s (inits_from k (expr_at d img) img p e) Γ ≡ (first >>= λ u. rest)
+    inits_one : inits C s (inits_from k (expr_at d img) img p e) Γ ≡ (first >>= λ u. rest)
     unfolding inits first rest one_init
-    inits-one = rw (inits_more (expr_at d img) img k p e h l) (sym (joined (expr C (expr_at d img (second img p)) Γ) _ _))
+    inits_one = rw (inits_more (expr_at d img) img k p e h l) (sym (joined (expr C (expr_at d img (second img p)) Γ) _ _))
 
-    pub inits-next : ok tt ≡ one_init C s p (name_in img p) (expr_at d img (second img p)) Γ
+    pub inits_next : ok tt ≡ one_init C s p (name_in img p) (expr_at d img (second img p)) Γ
         → inits C s (inits_from k (expr_at d img) img p e) Γ ≡ inits C s (inits_from (k - 1) (expr_at d img) img (after img p) e) Γ
     unfolding first rest
-    inits-next q = inits-one ∙ sym (then_ok _ q refl)
+    inits_next q = inits_one ∙ sym (then_ok _ q refl)
 
-    pub inits-bad : {r : Refusal} → bad r ≡ one_init C s p (name_in img p) (expr_at d img (second img p)) Γ → bad r ≡ inits C s (inits_from k (expr_at d img) img p e) Γ
+    pub inits_bad : {r : Refusal} → bad r ≡ one_init C s p (name_in img p) (expr_at d img (second img p)) Γ → bad r ≡ inits C s (inits_from k (expr_at d img) img p e) Γ
     unfolding first rest
-    inits-bad q = then_bad _ q ∙ sym inits-one
+    inits_bad q = then_bad _ q ∙ sym inits_one
 
 pub call_done : (o : Res (List Arg)) (p : ℕ) (f : Name) (s : Option Sig) {r : Res Typ}
     → r ≡ ((o >>= sum_up (params_of s) 0) >>= λ q. applied p f q.count q.first s) → r ≡ (o >>= λ vs. apply p f vs s)

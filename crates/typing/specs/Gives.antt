@@ -2,7 +2,7 @@
 -- Assumes nothing.
 use Rattle.std.specs.Prelude.{List, ◌≡◌, ℕ}
 use Rattle.rules.specs.Tree.{Expr}
-use Rattle.rules.specs.Meant.{ofExpr}
+use Rattle.rules.specs.Meant.{of_expr}
 use Rattle.rules.specs.Analyse.{expr}
 use Rattle.rules.specs.Read.{Kind, expr_as, expr_at, contract_at}
 use Rattle.lookup.specs.declared.Typed.{Typed}
@@ -15,4 +15,4 @@ expr_of K d img i = expr_as K (expr_at d img) img i
 
 -- the type of an expression, or its first refusal, with the names that the array e holds up to top; and the notes of its accesses
 abbrev pub Gives : (img e N N' : List ℕ) (top : ℕ) → Typed → Expr → Type 0
-Gives img e N N' top r x = (typed_of img r ≡ expr (contract_at img) x (env_of img e top)) × Wrote (contract_at img) N N' (ofExpr (contract_at img) x (env_of img e top)) (typed_of img r)
+Gives img e N N' top r x = (typed_of img r ≡ expr (contract_at img) x (env_of img e top)) × Wrote (contract_at img) N N' (of_expr (contract_at img) x (env_of img e top)) (typed_of img r)

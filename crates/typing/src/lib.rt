@@ -8,7 +8,7 @@ ghost use Rattle.rules.specs.Analyse.{inits};
 ghost use Rattle.tables.specs.Listed.{Tabled};
 ghost use Rattle.lookup.specs.Answers.{due_of, checked_of, env_of};
 ghost use Rattle.typing.specs.Arguments.{args_of, sum_args, exprs_in, inits_in, one_init};
-ghost use Rattle.rules.specs.Meant.{ofExpr, ofExprs, ofInits};
+ghost use Rattle.rules.specs.Meant.{of_expr, of_exprs, of_inits};
 ghost use Rattle.notes.specs.Notes.{Wrote};
 ghost use Rattle.typing.specs.Gives.{expr_of, Gives};
 
@@ -111,7 +111,7 @@ pub fn analyze_args(
     params: Due,
 ) -> Args
     requires { Tabled img.now tables.now }
-    ensures { (args_of img.now result ≡ sum_args (contract_at img.now) (due_of img.now params) 0 (exprs_in left d img.now l) (env_of img.now env.now top)) × Wrote (contract_at img.now) notes.old notes.new (ofExprs (contract_at img.now) (exprs_in left d img.now l) (env_of img.now env.now top)) (args_of img.now result) }
+    ensures { (args_of img.now result ≡ sum_args (contract_at img.now) (due_of img.now params) 0 (exprs_in left d img.now l) (env_of img.now env.now top)) × Wrote (contract_at img.now) notes.old notes.new (of_exprs (contract_at img.now) (exprs_in left d img.now l) (env_of img.now env.now top)) (args_of img.now result) }
 {
     let end = records::past(img, l);
     let mut p = records::body(img, l);
@@ -176,7 +176,7 @@ fn analyze_init(
     s: usize,
 ) -> Checked
     requires { Tabled img.now tables.now }
-    ensures { (checked_of img.now result ≡ one_init (contract_at img.now) (struct_at img.now s) at (name_in img.now at) (expr_at d img.now (second img.now at)) (env_of img.now env.now top)) × Wrote (contract_at img.now) notes.old notes.new (ofExpr (contract_at img.now) (expr_at d img.now (second img.now at)) (env_of img.now env.now top)) (checked_of img.now result) }
+    ensures { (checked_of img.now result ≡ one_init (contract_at img.now) (struct_at img.now s) at (name_in img.now at) (expr_at d img.now (second img.now at)) (env_of img.now env.now top)) × Wrote (contract_at img.now) notes.old notes.new (of_expr (contract_at img.now) (expr_at d img.now (second img.now at)) (env_of img.now env.now top)) (checked_of img.now result) }
 {
     let t = analyze_expr(
         notes,
@@ -206,7 +206,7 @@ fn analyze_inits(
     s: usize,
 ) -> Checked
     requires { Tabled img.now tables.now }
-    ensures { (checked_of img.now result ≡ inits (contract_at img.now) (struct_at img.now s) (inits_in d img.now l) (env_of img.now env.now top)) × Wrote (contract_at img.now) notes.old notes.new (ofInits (contract_at img.now) (inits_in d img.now l) (env_of img.now env.now top)) (checked_of img.now result) }
+    ensures { (checked_of img.now result ≡ inits (contract_at img.now) (struct_at img.now s) (inits_in d img.now l) (env_of img.now env.now top)) × Wrote (contract_at img.now) notes.old notes.new (of_inits (contract_at img.now) (inits_in d img.now l) (env_of img.now env.now top)) (checked_of img.now result) }
 {
     let end = records::past(img, l);
     let mut p = records::body(img, l);

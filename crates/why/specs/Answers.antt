@@ -41,7 +41,7 @@ use Rattle.bounds.specs.Cuts as cuts
 use Rattle.tables.specs.Listed.{functions_in}
 use Rattle.emit.specs.declared.St.{St}
 use Rattle.emit.specs.declared.Rules.{Rules}
-use Rattle.emit.specs.Steps.{Out, ◌>>=◌, say, ask, Here, gen_params, gen-stmts, gen_function_lem}
+use Rattle.emit.specs.Steps.{Out, ◌>>=◌, say, ask, Here, gen_params, gen_stmts_lem, gen_function_lem}
 use Rattle.emit.specs.Laws.{as_out}
 use Rattle.emit.specs.Same.{logged, function_same}
 use Rattle.emit.specs.Sinks.{Sinks, sinks}
@@ -99,7 +99,7 @@ module _ {img : List ℕ} {R : Rules} {f first : ℕ} {a p b q u : St} {s : List
   ends d = finish (rules_of R) (contract_at img) f d.next
 
   abbrev body : Res (Out Here)
-  body = gen-stmts (rules_of R) (contract_at img) (function_at img f).body (bind (function_at img f).params (regs_in s) []) (suc (a.reg % 256) + length (regs_in s))
+  body = gen_stmts_lem (rules_of R) (contract_at img) (function_at img f).body (bind (function_at img f).params (regs_in s) []) (suc (a.reg % 256) + length (regs_in s))
 
   ends_long : (d : Here) → Long 5 (ends d)
   unfolding finish
@@ -159,7 +159,7 @@ module _ {img : List ℕ} {R : Rules} {f first : ℕ} {a p b q u : St} {s : List
       let c = E.bound.scope in
       let z : suc (a.reg % 256) + length (regs_in s) ≡ a.reg % 256 + 1 + get_or s 0 0 = omega (arith, length_regs s (get_or s 0 0)) in
       entered m (found_front (told img want) body ends 5 ends_long (leb-false end (want + 5) e)
-      (rw (z, ← c, ← g) (subst (λ (y : St). Found (told img want) (gen-stmts (rules_of R) (contract_at img) (body_at (stmt_at_lem 64 img) img l) (scope_in img s) y.next) (tally y) (end - 5) want w) n h.found)))
+      (rw (z, ← c, ← g) (subst (λ (y : St). Found (told img want) (gen_stmts_lem (rules_of R) (contract_at img) (body_at (stmt_at_lem 64 img) img l) (scope_in img s) y.next) (tally y) (end - 5) want w) n h.found)))
 
 -- The opening, of the Contract.
 pub opened_main : {img : List ℕ} {R : Rules} {F : List ℕ} {n want : ℕ} {a : Spot} → want ≡ 1 → a ≡ called 0 (or_first (last_index function_name 0 main (contract_at img).functions)) → Opened img R F n want a

@@ -23,7 +23,7 @@ use Rattle.rules.specs.Link.{Built, functions, less, distance, patch, link, open
 use Rattle.rules.specs.Why.{mark_of, landing, target_of, marked}
 use Rattle.bounds.specs.Answers.{All, all_ok, all_bad, from_ok, all_bind, all_next, all_pick}
 use Rattle.bounds.specs.Held.{Each, each_map}
-use Rattle.bounds.specs.Whole.{Here, Whole, Whole-exprs, Whole-inits, Whole-stmt, Whole-stmts, WholeFunction}
+use Rattle.bounds.specs.Whole.{Here, Whole, WholeExprs, WholeInits, WholeStmt, WholeStmts, WholeFunction}
 use Rattle.bounds.specs.ContractOf.{all_whole}
 
 -- An offset that leads ahead.
@@ -90,100 +90,100 @@ module _ (img : List ℕ) where
 
   -- The steps of Generate, by what an answer is.
   module _ {B : Type 0} {Q : B → Type 0} where
-    then-reg : (m : Res ℕ) (f : ℕ → Res B) → ((r : ℕ) → All Q (f r)) → All Q (m >>= f)
-    then-reg m f k = all_next m f k
+    then_reg : (m : Res ℕ) (f : ℕ → Res B) → ((r : ℕ) → All Q (f r)) → All Q (m >>= f)
+    then_reg m f k = all_next m f k
 
-    then-value : (m : Res Value) (f : Value → Res B) → Fine (λ v. v.code) m → ((v : Value) → Goods v.code → All Q (f v)) → All Q (m >>= f)
-    then-value m f h k = all_bind m f h k
+    then_value : (m : Res Value) (f : Value → Res B) → Fine (λ v. v.code) m → ((v : Value) → Goods v.code → All Q (f v)) → All Q (m >>= f)
+    then_value m f h k = all_bind m f h k
 
-    then-values : (m : Res Values) (f : Values → Res B) → Fine (λ v. v.code) m → ((v : Values) → Goods v.code → All Q (f v)) → All Q (m >>= f)
-    then-values m f h k = all_bind m f h k
+    then_values : (m : Res Values) (f : Values → Res B) → Fine (λ v. v.code) m → ((v : Values) → Goods v.code → All Q (f v)) → All Q (m >>= f)
+    then_values m f h k = all_bind m f h k
 
-    then-done : (m : Res Done) (f : Done → Res B) → Fine (λ d. d.code) m → ((d : Done) → Goods d.code → All Q (f d)) → All Q (m >>= f)
-    then-done m f h k = all_bind m f h k
+    then_done : (m : Res Done) (f : Done → Res B) → Fine (λ d. d.code) m → ((d : Done) → Goods d.code → All Q (f d)) → All Q (m >>= f)
+    then_done m f h k = all_bind m f h k
 
-    then-words : (m : Res (List Open)) (f : List Open → Res B) → Fine (λ l. l) m → ((l : List Open) → Goods l → All Q (f l)) → All Q (m >>= f)
-    then-words m f h k = all_bind m f h k
+    then_words : (m : Res (List Open)) (f : List Open → Res B) → Fine (λ l. l) m → ((l : List Open) → Goods l → All Q (f l)) → All Q (m >>= f)
+    then_words m f h k = all_bind m f h k
 
-  ruleset steps = (all_ok, all_pick, then-reg, then-value, then-values, then-done, then-words, joined, each_map, here, stored, parted, branched, looped)
+  ruleset steps = (all_ok, all_pick, then_reg, then_value, then_values, then_done, then_words, joined, each_map, here, stored, parted, branched, looped)
 
   -- All that Generate emits.
   module _ (R : Rules) (C : Contract) where
-    number-good : (p v n : ℕ) → p ≤ length img → Fine (λ (x : Value). x.code) (number R C p v n)
+    number_good : (p v n : ℕ) → p ≤ length img → Fine (λ (x : Value). x.code) (number R C p v n)
     unfolding number mark_of
-    number-good p v n k = search steps depth 16
+    number_good p v n k = search steps depth 16
 
-    apply-good : (p : ℕ) (f : Name) (n : ℕ) (m : Res Values) (b : Option Builtin) → p ≤ length img → Fine (λ (a : Values). a.code) m → Fine (λ (v : Value). v.code) (apply R C p f n m b)
+    apply_good : (p : ℕ) (f : Name) (n : ℕ) (m : Res Values) (b : Option Builtin) → p ≤ length img → Fine (λ (a : Values). a.code) m → Fine (λ (v : Value). v.code) (apply R C p f n m b)
     unfolding apply mark_of
-    apply-good p f n m (some Builtin.poseidon) k h = search steps depth 16
-    apply-good p f n m (some Builtin.sender) k h = search steps depth 16
-    apply-good p f n m (some Builtin.nonce) k h = search steps depth 16
-    apply-good p f n m (some Builtin.block-number) k h = search steps depth 16
-    apply-good p f n m (some Builtin.merkle) k h = search steps depth 16
-    apply-good p f n m none k h = search steps depth 16
+    apply_good p f n m (some Builtin.poseidon) k h = search steps depth 16
+    apply_good p f n m (some Builtin.sender) k h = search steps depth 16
+    apply_good p f n m (some Builtin.nonce) k h = search steps depth 16
+    apply_good p f n m (some Builtin.block-number) k h = search steps depth 16
+    apply_good p f n m (some Builtin.merkle) k h = search steps depth 16
+    apply_good p f n m none k h = search steps depth 16
 
     mutual
-      unfolding expr exprs inits Whole Whole-exprs Whole-inits mark_of
+      unfolding expr exprs inits Whole WholeExprs WholeInits mark_of
 
-      expr-good : (e : Expr) → Whole img e → Fines (λ (v : Value). v.code) (expr R C e)
-      expr-good (Expr.no-expr p) h = absurd h
-      expr-good (Expr.int p v) h = search (here, number-good)
-      expr-good (Expr.ident p x) h = search steps
-      expr-good (Expr.storage-read p x) h = search steps depth 16
-      expr-good (Expr.mapping-read p x e) h = search (steps, expr-good e h.1) depth 16
-      expr-good (Expr.field-access p e x) h = search (steps, expr-good e h.1) depth 16
-      expr-good (Expr.literal p x is) h = search (steps, inits-good is h.2) depth 16
-      expr-good (Expr.binary p a o b) h = search (steps, expr-good a h.1, expr-good b h.2) depth 16
-      expr-good (Expr.call p f es) h = search (here, apply-good, exprs-good es h.2)
+      expr_good : (e : Expr) → Whole img e → Fines (λ (v : Value). v.code) (expr R C e)
+      expr_good (Expr.no-expr p) h = absurd h
+      expr_good (Expr.int p v) h = search (here, number_good)
+      expr_good (Expr.ident p x) h = search steps
+      expr_good (Expr.storage-read p x) h = search steps depth 16
+      expr_good (Expr.mapping-read p x e) h = search (steps, expr_good e h.1) depth 16
+      expr_good (Expr.field-access p e x) h = search (steps, expr_good e h.1) depth 16
+      expr_good (Expr.literal p x is) h = search (steps, inits_good is h.2) depth 16
+      expr_good (Expr.binary p a o b) h = search (steps, expr_good a h.1, expr_good b h.2) depth 16
+      expr_good (Expr.call p f es) h = search (here, apply_good, exprs_good es h.2)
 
-      exprs-good : (es : Exprs) → Whole-exprs img es → Fines (λ (v : Values). v.code) (exprs R C es)
-      exprs-good Exprs.none h = search steps
-      exprs-good (Exprs.more e es) h = search (steps, expr-good e h.0, exprs-good es h.1)
+      exprs_good : (es : Exprs) → WholeExprs img es → Fines (λ (v : Values). v.code) (exprs R C es)
+      exprs_good Exprs.none h = search steps
+      exprs_good (Exprs.more e es) h = search (steps, expr_good e h.0, exprs_good es h.1)
 
-      inits-good : (is : Inits) → Whole-inits img is → Fines (λ (v : Values). v.code) (inits R C is)
-      inits-good Inits.no-init h = search steps
-      inits-good (Inits.init q x e is) h = search (steps, expr-good e h.1, inits-good is h.2)
+      inits_good : (is : Inits) → WholeInits img is → Fines (λ (v : Values). v.code) (inits R C is)
+      inits_good Inits.no-init h = search steps
+      inits_good (Inits.init q x e is) h = search (steps, expr_good e h.1, inits_good is h.2)
 
-    logs-good : (p : ℕ) (es : Exprs) → p ≤ length img → Whole-exprs img es → Fines (λ l. l) (logs R C p es)
-    unfolding logs Whole-exprs mark_of
-    logs-good p Exprs.none k h = search steps
-    logs-good p (Exprs.more e es) k h = search (steps, expr-good e h.0, logs-good p es k h.1) depth 16
+    logs_good : (p : ℕ) (es : Exprs) → p ≤ length img → WholeExprs img es → Fines (λ l. l) (logs R C p es)
+    unfolding logs WholeExprs mark_of
+    logs_good p Exprs.none k h = search steps
+    logs_good p (Exprs.more e es) k h = search (steps, expr_good e h.0, logs_good p es k h.1) depth 16
 
     mutual
-      unfolding stmt stmts Whole-stmt Whole-stmts mark_of
+      unfolding stmt stmts WholeStmt WholeStmts mark_of
 
-      stmt-good : (x : Stmt) → Whole-stmt img x → Fines (λ (d : Done). d.code) (stmt R C x)
-      stmt-good (Stmt.no-stmt p) h = absurd h
-      stmt-good (Stmt.let-in p x e) h = search (steps, expr-good e h.1) depth 16
-      stmt-good (Stmt.constrain p e) h = search (steps, expr-good e h.1) depth 16
-      stmt-good (Stmt.assign p x e) h = search (steps, expr-good e h.1) depth 16
-      stmt-good (Stmt.storage-write p x e) h = search (steps, expr-good e h.1) depth 16
-      stmt-good (Stmt.mapping-write p x e f) h = search (steps, expr-good e h.1, expr-good f h.2) depth 16
-      stmt-good (Stmt.if-else p c t e) h = search (steps, expr-good c h.1, stmts-good e h.5, stmts-good t h.3) depth 16
-      stmt-good (Stmt.while p c b) h = search (steps, expr-good c h.1, stmts-good b h.3)
-      stmt-good (Stmt.for p x e f b) h = search (steps, expr-good e h.1, expr-good f h.2, stmts-good b h.4) depth 16
-      stmt-good (Stmt.return p e) h = search (steps, expr-good e h.1) depth 16
-      stmt-good (Stmt.return-none p) h = search steps depth 16
-      stmt-good (Stmt.emits p x es) h = search (steps, logs-good p es (here p h.0) h.2)
-      stmt-good (Stmt.just p e) h = search (steps, expr-good e h.1)
+      stmt_good : (x : Stmt) → WholeStmt img x → Fines (λ (d : Done). d.code) (stmt R C x)
+      stmt_good (Stmt.no-stmt p) h = absurd h
+      stmt_good (Stmt.let-in p x e) h = search (steps, expr_good e h.1) depth 16
+      stmt_good (Stmt.constrain p e) h = search (steps, expr_good e h.1) depth 16
+      stmt_good (Stmt.assign p x e) h = search (steps, expr_good e h.1) depth 16
+      stmt_good (Stmt.storage-write p x e) h = search (steps, expr_good e h.1) depth 16
+      stmt_good (Stmt.mapping-write p x e f) h = search (steps, expr_good e h.1, expr_good f h.2) depth 16
+      stmt_good (Stmt.if-else p c t e) h = search (steps, expr_good c h.1, stmts_good e h.5, stmts_good t h.3) depth 16
+      stmt_good (Stmt.while p c b) h = search (steps, expr_good c h.1, stmts_good b h.3)
+      stmt_good (Stmt.for p x e f b) h = search (steps, expr_good e h.1, expr_good f h.2, stmts_good b h.4) depth 16
+      stmt_good (Stmt.return p e) h = search (steps, expr_good e h.1) depth 16
+      stmt_good (Stmt.return-none p) h = search steps depth 16
+      stmt_good (Stmt.emits p x es) h = search (steps, logs_good p es (here p h.0) h.2)
+      stmt_good (Stmt.just p e) h = search (steps, expr_good e h.1)
 
-      stmts-good : (xs : Stmts) → Whole-stmts img xs → Fines (λ (d : Done). d.code) (stmts R C xs)
-      stmts-good Stmts.none h = search steps
-      stmts-good (Stmts.more x xs) h = search (steps, stmt-good x h.0, stmts-good xs h.1)
+      stmts_good : (xs : Stmts) → WholeStmts img xs → Fines (λ (d : Done). d.code) (stmts R C xs)
+      stmts_good Stmts.none h = search steps
+      stmts_good (Stmts.more x xs) h = search (steps, stmt_good x h.0, stmts_good xs h.1)
 
-    function-good : (f : Function) → WholeFunction img f → Fine (λ l. l) (function R C f)
+    function_good : (f : Function) → WholeFunction img f → Fine (λ l. l) (function R C f)
     unfolding function mark_of
-    function-good f h = all_next _ _ (λ a. all_next _ _ (λ rs. search (steps, stmts-good f.body h.stmts) depth 16))
+    function_good f h = all_next _ _ (λ a. all_next _ _ (λ rs. search (steps, stmts_good f.body h.stmts) depth 16))
 
-    functions-good : (i : ℕ) (fs : List Function) → Each (λ (f : Function). WholeFunction img f) fs → All (λ (b : Built). Goods b.code) (functions R C i fs)
+    functions_good : (i : ℕ) (fs : List Function) → Each (λ (f : Function). WholeFunction img f) fs → All (λ (b : Built). Goods b.code) (functions R C i fs)
     unfolding functions
-    functions-good i [] h = search steps
-    functions-good i (f ∷ fs) h = all_bind _ _ (function-good f h.0) (λ c u. all_bind _ _ (functions-good (i + length c) fs h.1) (λ r w. all_ok _ (joined c _ u w)))
+    functions_good i [] h = search steps
+    functions_good i (f ∷ fs) h = all_bind _ _ (function_good f h.0) (λ c u. all_bind _ _ (functions_good (i + length c) fs h.1) (λ r w. all_ok _ (joined c _ u w)))
 
 pub marked_good : (R : Rules) (img : List ℕ) (q m : ℕ) → check_of img ≡ Sound q m → All (λ (b : Built). Each (Good img) b.code) (marked R (contract_at img))
 unfolding marked with_main opening mark_of
 marked_good R img q m e = with (last (λ (f : Function). f.name) main (contract_at img).functions)
-    (all_bind _ _ (functions-good img R (contract_at img) 3 (contract_at img).functions (all_whole img q m e)) (λ b h. all_ok _ ((omega arith, tt), ((omega arith, tt), ((omega arith, tt), h)))))
+    (all_bind _ _ (functions_good img R (contract_at img) 3 (contract_at img).functions (all_whole img q m e)) (λ b h. all_ok _ ((omega arith, tt), ((omega arith, tt), ((omega arith, tt), h)))))
   where
     with : {P : Built → Type 0} {m : Res Built} (o : Option Function) → All P m → All P (with_main o m)
     with none h = all_bad _

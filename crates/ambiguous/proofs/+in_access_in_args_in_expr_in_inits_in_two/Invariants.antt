@@ -4,10 +4,10 @@ use Prim.Native.Nat.{◌+◌, ◌-◌, ◌*◌}
 use borrow.Author.Tests.{ltb-true, ltb-false}
 use Rattle.rules.specs.Bytes.{pick, inside, after}
 use Rattle.rules.specs.Read.{expr_at, expr_as, exprs_from, inits_from, kind_of, kMapping, kAccess, kLiteral, kBinary, kCall, contract_at}
-use Rattle.rules.specs.Ambiguous.{inExpr, inExprs, inInits}
+use Rattle.rules.specs.Ambiguous.{in_expr_lem, in_exprs, in_inits_lem}
 use Rattle.ambiguous.specs.Spots.{spot_of}
 use Rattle.ambiguous.proofs.Trees.{at_zero, at_kind}
-use Rattle.ambiguous.proofs.Walk.{then_first, then_second, leaf_kind, args-zero, args_end, args-here, args-next, inits-none, inits-over, inits-here, inits-next}
+use Rattle.ambiguous.proofs.Walk.{then_first, then_second, leaf_kind, args_zero, args_end, args_here, args_next, inits_none, inits_over, inits_here, inits_next}
 use borrow.Author.Rules.{rules}
 use Prim.Native.Nat.{ℕ, ◌<◌}
 use borrow.Fn.Kinds.{In}
@@ -21,13 +21,13 @@ use Rattle.ambiguous.proofs.+in_access_in_args_in_expr_in_inits_in_two.{statemen
 use Rattle.ambiguous.proofs.+in_access_in_args_in_expr_in_inits_in_two.Given as goal
 
 abbrev pub in_args-invariant-loop-k : goal.in_args-invariant-loop-k
-in_args-invariant-loop-k l = inExprs (contract_at l.img) (exprs_from l.most (expr_at l.d l.img) l.img (inside l.img l.l) (after l.img l.l)) ≡ inExprs (contract_at l.img) (exprs_from l.k (expr_at l.d l.img) l.img l.p l.end)
+in_args-invariant-loop-k l = in_exprs (contract_at l.img) (exprs_from l.most (expr_at l.d l.img) l.img (inside l.img l.l) (after l.img l.l)) ≡ in_exprs (contract_at l.img) (exprs_from l.k (expr_at l.d l.img) l.img l.p l.end)
 
 abbrev pub in_args-decreases-loop-k : goal.in_args-decreases-loop-k
 in_args-decreases-loop-k l = l.k
 
 abbrev pub in_inits-invariant-loop-k : goal.in_inits-invariant-loop-k
-in_inits-invariant-loop-k l = inInits (contract_at l.img) (inits_from 64 (expr_at l.d l.img) l.img (inside l.img l.l) (after l.img l.l)) ≡ inInits (contract_at l.img) (inits_from l.k (expr_at l.d l.img) l.img l.p l.end)
+in_inits-invariant-loop-k l = in_inits_lem (contract_at l.img) (inits_from 64 (expr_at l.d l.img) l.img (inside l.img l.l) (after l.img l.l)) ≡ in_inits_lem (contract_at l.img) (inits_from l.k (expr_at l.d l.img) l.img l.p l.end)
 
 abbrev pub in_inits-decreases-loop-k : goal.in_inits-decreases-loop-k
 in_inits-decreases-loop-k l = l.k

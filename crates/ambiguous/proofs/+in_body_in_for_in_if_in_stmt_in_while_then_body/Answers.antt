@@ -4,10 +4,10 @@ use Prim.Native.Nat.{◌+◌, ◌*◌}
 use borrow.Author.Tests.{ltb-true, ltb-false}
 use Rattle.rules.specs.Bytes.{pick, after}
 use Rattle.rules.specs.Read.{stmt_at_lem, stmt_as, stmts_from, stmt_kind_of, sIf, sWhile, sFor, body_at, third, contract_at}
-use Rattle.rules.specs.Ambiguous.{inStmt, inStmts}
+use Rattle.rules.specs.Ambiguous.{in_stmt_lem, in_stmts}
 use Rattle.ambiguous.specs.Spots.{spot_of}
-use Rattle.ambiguous.proofs.Trees.{stmt_zero, stmt_kind, else-there, else-not}
-use Rattle.ambiguous.proofs.Walk.{then_first, then_second, else_else, else_none, three, body-zero, body_end, body-here, body-next}
+use Rattle.ambiguous.proofs.Trees.{stmt_zero, stmt_kind, else_there, else_not}
+use Rattle.ambiguous.proofs.Walk.{then_first, then_second, else_else, else_none, three, body_zero, body_end, body_here, body_next}
 use borrow.Author.Rules.{rules}
 use Prim.Native.Nat.{ℕ, ◌<◌}
 use borrow.Fn.Kinds.{In}
@@ -81,10 +81,10 @@ pub in_body-loop-k-init : goal.in_body-loop-k-init
 in_body-loop-k-init t c = rw (c.body-p.ensures.0, c.past-end.ensures.0)
 
 pub in_body-returns-in-At : goal.in_body-returns-in-At
-in_body-returns-in-At t c = body-here (contract_at c.args.img.now) c.args.img.now (stmt_at_lem c.args.d c.args.img.now) c.loop-k.k c.loop-k.p c.past-end.result c.loop-k-test.true (ltb-true _ _ c.if-p-end.true) c.in-At.is c.in_stmt-a.ensures ∙ sym c.loop-k.invariant
+in_body-returns-in-At t c = body_here (contract_at c.args.img.now) c.args.img.now (stmt_at_lem c.args.d c.args.img.now) c.loop-k.k c.loop-k.p c.past-end.result c.loop-k-test.true (ltb-true _ _ c.if-p-end.true) c.in-At.is c.in_stmt-a.ensures ∙ sym c.loop-k.invariant
 
 pub in_body-loop-k-preserved : goal.in_body-loop-k-preserved
-in_body-loop-k-preserved t c = c.loop-k.invariant ∙ rw c.past-p.ensures.0 (body-next (contract_at c.args.img.now) c.args.img.now (stmt_at_lem c.args.d c.args.img.now) c.loop-k.k c.loop-k.p c.past-end.result c.loop-k-test.true (ltb-true _ _ c.if-p-end.true) c.in-Nowhere.is c.in_stmt-a.ensures)
+in_body-loop-k-preserved t c = c.loop-k.invariant ∙ rw c.past-p.ensures.0 (body_next (contract_at c.args.img.now) c.args.img.now (stmt_at_lem c.args.d c.args.img.now) c.loop-k.k c.loop-k.p c.past-end.result c.loop-k-test.true (ltb-true _ _ c.if-p-end.true) c.in-Nowhere.is c.in_stmt-a.ensures)
 
 pub in_body-returns-else-p-end : goal.in_body-returns-else-p-end
 unfolding spot_of
@@ -92,22 +92,22 @@ in_body-returns-else-p-end t c = body_end (contract_at c.args.img.now) c.args.im
 
 pub in_body-returns-after-loop-k : goal.in_body-returns-after-loop-k
 unfolding spot_of
-in_body-returns-after-loop-k t c = body-zero (contract_at c.args.img.now) c.args.img.now (stmt_at_lem c.args.d c.args.img.now) c.loop-k.k c.loop-k.p c.past-end.result c.loop-k-test.false ∙ sym c.loop-k.invariant
+in_body-returns-after-loop-k t c = body_zero (contract_at c.args.img.now) c.args.img.now (stmt_at_lem c.args.d c.args.img.now) c.loop-k.k c.loop-k.p c.past-end.result c.loop-k-test.false ∙ sym c.loop-k.invariant
 
 pub in_for-returns : goal.in_for-returns
-unfolding inStmt stmt_as
+unfolding in_stmt_lem stmt_as
 in_for-returns t c = (rw (c.in_two-t.ensures, c.past.ensures.0, c.past-to.ensures.0, c.second-from.ensures) at c.then_body.ensures) ∙ else_else _ _ _
 
 pub in_if-returns-then-other-past : goal.in_if-returns-then-other-past
-unfolding inStmt stmt_as
-in_if-returns-then-other-past t c = rw (else-there (stmt_at_lem c.args.d c.args.img.now) c.args.img.now (third c.args.img.now c.args.at) (after c.args.img.now c.args.at) (c.past-other.ensures.0 ∙ ap (after c.args.img.now) (c.past-then.ensures.0 ∙ ap (after c.args.img.now) c.body-test.ensures.0)) c.past.ensures.0 c.if-other-past.true) (three _ _ (rw c.body-test.ensures.0 at c.in_expr-t.ensures) (rw (c.past-then.ensures.0, c.body-test.ensures.0) at c.then_body-a.ensures) (rw (c.past-other.ensures.0, c.past-then.ensures.0, c.body-test.ensures.0) at c.then_body.ensures))
+unfolding in_stmt_lem stmt_as
+in_if-returns-then-other-past t c = rw (else_there (stmt_at_lem c.args.d c.args.img.now) c.args.img.now (third c.args.img.now c.args.at) (after c.args.img.now c.args.at) (c.past-other.ensures.0 ∙ ap (after c.args.img.now) (c.past-then.ensures.0 ∙ ap (after c.args.img.now) c.body-test.ensures.0)) c.past.ensures.0 c.if-other-past.true) (three _ _ (rw c.body-test.ensures.0 at c.in_expr-t.ensures) (rw (c.past-then.ensures.0, c.body-test.ensures.0) at c.then_body-a.ensures) (rw (c.past-other.ensures.0, c.past-then.ensures.0, c.body-test.ensures.0) at c.then_body.ensures))
 
 pub in_if-returns-else-other-past : goal.in_if-returns-else-other-past
-unfolding inStmt inStmts stmt_as
-in_if-returns-else-other-past t c = rw (else-not (stmt_at_lem c.args.d c.args.img.now) c.args.img.now (third c.args.img.now c.args.at) (after c.args.img.now c.args.at) (c.past-other.ensures.0 ∙ ap (after c.args.img.now) (c.past-then.ensures.0 ∙ ap (after c.args.img.now) c.body-test.ensures.0)) c.past.ensures.0 c.if-other-past.false) (three _ _ (rw c.body-test.ensures.0 at c.in_expr-t.ensures) (rw (c.past-then.ensures.0, c.body-test.ensures.0) at c.then_body-a.ensures) (sym (else_none _)))
+unfolding in_stmt_lem in_stmts stmt_as
+in_if-returns-else-other-past t c = rw (else_not (stmt_at_lem c.args.d c.args.img.now) c.args.img.now (third c.args.img.now c.args.at) (after c.args.img.now c.args.at) (c.past-other.ensures.0 ∙ ap (after c.args.img.now) (c.past-then.ensures.0 ∙ ap (after c.args.img.now) c.body-test.ensures.0)) c.past.ensures.0 c.if-other-past.false) (three _ _ (rw c.body-test.ensures.0 at c.in_expr-t.ensures) (rw (c.past-then.ensures.0, c.body-test.ensures.0) at c.then_body-a.ensures) (sym (else_none _)))
 
 pub in_stmt-returns-then-d-eq0 : goal.in_stmt-returns-then-d-eq0
-unfolding inStmt spot_of
+unfolding in_stmt_lem spot_of
 in_stmt-returns-then-d-eq0 t c = rw (stmt_zero c.args.d c.args.img.now c.args.at c.if-d-eq0.true)
 
 pub in_stmt-in_simple-requires : goal.in_stmt-in_simple-requires
@@ -129,7 +129,7 @@ pub in_stmt-returns-in_default : goal.in_stmt-returns-in_default
 in_stmt-returns-in_default t c = rw (stmt_kind c.args.d c.args.img.now c.args.at c.kind-k.result (stmt_kind_of c.kind-k.result) c.if-d-eq0.false c.kind-k.ensures.0 refl) c.in_simple.ensures
 
 pub in_while-returns : goal.in_while-returns
-unfolding inStmt stmt_as
+unfolding in_stmt_lem stmt_as
 in_while-returns t c = rw (c.in_expr-t.ensures, c.past.ensures.0, c.body-test.ensures.0) at c.then_body.ensures
 
 pub then_body-returns-in-At : goal.then_body-returns-in-At

@@ -4,10 +4,10 @@ use Prim.Native.Nat.{◌+◌, ◌*◌}
 use borrow.Author.Tests.{ltb-true, ltb-false}
 use Rattle.rules.specs.Bytes.{pick, after}
 use Rattle.rules.specs.Read.{stmt_at_lem, stmt_as, stmts_from, stmt_kind_of, sIf, sWhile, sFor, body_at, third, contract_at}
-use Rattle.rules.specs.Ambiguous.{inStmt, inStmts}
+use Rattle.rules.specs.Ambiguous.{in_stmt_lem, in_stmts}
 use Rattle.ambiguous.specs.Spots.{spot_of}
-use Rattle.ambiguous.proofs.Trees.{stmt_zero, stmt_kind, else-there, else-not}
-use Rattle.ambiguous.proofs.Walk.{then_first, then_second, else_else, else_none, three, body-zero, body_end, body-here, body-next}
+use Rattle.ambiguous.proofs.Trees.{stmt_zero, stmt_kind, else_there, else_not}
+use Rattle.ambiguous.proofs.Walk.{then_first, then_second, else_else, else_none, three, body_zero, body_end, body_here, body_next}
 use borrow.Author.Rules.{rules}
 use Prim.Native.Nat.{ℕ, ◌<◌}
 use borrow.Fn.Kinds.{In}
@@ -22,7 +22,7 @@ use Rattle.ambiguous.proofs.+in_body_in_for_in_if_in_stmt_in_while_then_body.{st
 use Rattle.ambiguous.proofs.+in_body_in_for_in_if_in_stmt_in_while_then_body.Given as goal
 
 abbrev pub in_body-invariant-loop-k : goal.in_body-invariant-loop-k
-in_body-invariant-loop-k l = inStmts (contract_at l.img) (body_at (stmt_at_lem l.d l.img) l.img l.l) ≡ inStmts (contract_at l.img) (stmts_from l.k (stmt_at_lem l.d l.img) l.img l.p l.end)
+in_body-invariant-loop-k l = in_stmts (contract_at l.img) (body_at (stmt_at_lem l.d l.img) l.img l.l) ≡ in_stmts (contract_at l.img) (stmts_from l.k (stmt_at_lem l.d l.img) l.img l.p l.end)
 
 abbrev pub in_body-decreases-loop-k : goal.in_body-decreases-loop-k
 in_body-decreases-loop-k l = l.k

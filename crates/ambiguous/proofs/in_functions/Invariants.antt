@@ -1,6 +1,6 @@
 -- in_functions meets its contract.
 use Prim.Native.Nat.{◌-◌, ◌≤◌}
-use Rattle.ambiguous.proofs.Walk.{functions_from, functions_all, functions-over, functions-here, functions-next}
+use Rattle.ambiguous.proofs.Walk.{functions_from, functions_all, functions_over, functions_here, functions_next}
 use Rattle.ambiguous.specs.Spots.{spot_of}
 use Rattle.rules.specs.Ambiguous.{first_ambiguous_lem}
 use Rattle.rules.specs.Read.{contract_at}

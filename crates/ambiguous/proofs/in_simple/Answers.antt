@@ -1,30 +1,30 @@
 -- in_simple meets its contract.
 use Rattle.ambiguous.proofs.Trees.{kind_rest}
 use Rattle.ambiguous.specs.Spots.{spot_of}
-use Rattle.rules.specs.Ambiguous.{inStmt}
+use Rattle.rules.specs.Ambiguous.{in_stmt_lem}
 use Rattle.rules.specs.Bytes.{pick}
 use Rattle.rules.specs.Read.{stmt_as, stmt_kind_of}
 use borrow.Author.Rules.{rules}
 use Rattle.ambiguous.proofs.in_simple.Goals as goal
 
 pub returns-in-32 : goal.returns-in-32
-unfolding inStmt stmt_as stmt_kind_of pick
+unfolding in_stmt_lem stmt_as stmt_kind_of pick
 returns-in-32 c = rw c.in-32.is (rw (c.past-next.ensures.0, c.body-first.ensures.0) at c.in_expr.ensures)
 
 pub returns-in-33 : goal.returns-in-33
-unfolding inStmt stmt_as stmt_kind_of pick
+unfolding in_stmt_lem stmt_as stmt_kind_of pick
 returns-in-33 c = rw c.in-33.is (rw c.body-first.ensures.0 at c.in_expr-in-33.ensures)
 
 pub returns-in-34 : goal.returns-in-34
-unfolding inStmt stmt_as stmt_kind_of pick
+unfolding in_stmt_lem stmt_as stmt_kind_of pick
 returns-in-34 c = rw c.in-34.is (rw (c.past-next.ensures.0, c.body-first.ensures.0) at c.in_expr-in-34.ensures)
 
 pub returns-in-35 : goal.returns-in-35
-unfolding inStmt stmt_as stmt_kind_of pick
+unfolding in_stmt_lem stmt_as stmt_kind_of pick
 returns-in-35 c = rw c.in-35.is (rw (c.past-next.ensures.0, c.body-first.ensures.0) at c.in_expr-in-35.ensures)
 
 pub returns-in-36 : goal.returns-in-36
-unfolding inStmt stmt_as stmt_kind_of pick
+unfolding in_stmt_lem stmt_as stmt_kind_of pick
 returns-in-36 c = rw c.in-36.is (rw (c.past.ensures.0, c.past-next.ensures.0, c.body-first.ensures.0) at c.in_two.ensures)
 
 pub returns-in-40 : goal.returns-in-40
@@ -32,13 +32,13 @@ unfolding stmt_kind_of pick
 returns-in-40 c = rw c.in-40.is c.in_return.ensures
 
 pub returns-in-41 : goal.returns-in-41
-unfolding inStmt stmt_as stmt_kind_of pick
+unfolding in_stmt_lem stmt_as stmt_kind_of pick
 returns-in-41 c = rw c.in-41.is (rw (c.past-next.ensures.0, c.body-first.ensures.0) at c.in_args.ensures)
 
 pub returns-in-42 : goal.returns-in-42
-unfolding inStmt stmt_as stmt_kind_of pick
+unfolding in_stmt_lem stmt_as stmt_kind_of pick
 returns-in-42 c = rw c.in-42.is (rw c.body-first.ensures.0 at c.in_expr-in-42.ensures)
 
 pub returns-in_default : goal.returns-in_default
-unfolding inStmt stmt_as spot_of
+unfolding in_stmt_lem stmt_as spot_of
 returns-in_default c = rw (kind_rest c.args.k c.in_default.in_default-own.rest.0.0.0.0.0.0.0.1 c.in_default.in_default-own.rest.0.0.0.0.0.0.1 c.in_default.in_default-own.rest.0.0.0.0.0.1 c.in_default.in_default-own.rest.0.0.0.0.1 c.in_default.in_default-own.rest.0.0.0.1 c.requires.1.0 c.requires.1.1.0 c.requires.1.1.1 c.in_default.in_default-own.rest.0.0.1 c.in_default.in_default-own.rest.0.1 c.in_default.in_default-own.rest.1)

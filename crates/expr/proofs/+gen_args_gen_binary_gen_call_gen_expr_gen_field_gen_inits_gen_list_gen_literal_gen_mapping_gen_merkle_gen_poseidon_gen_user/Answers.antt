@@ -22,7 +22,7 @@ use mathlib.Core.Path.{ap}
 use borrow.Author.Tests.{ltb-true, ltb-false}
 use Rattle.expr.specs.declared.steps.Several.{Several}
 use Rattle.expr.proofs.Walk.{args_full, args_end}
-use Rattle.expr.proofs.Loops.{Gathering, gather_begin, args_from, args-go, gather_end}
+use Rattle.expr.proofs.Loops.{Gathering, gather_begin, args_from, args_go, gather_end}
 use Prim.Native.Nat.{ℕ, ◌-◌}
 use native.Mathlib.Omega.{arith}
 use borrow.Author.Rules.{rules}
@@ -42,7 +42,7 @@ use Rattle.expr.proofs.Walk.{field_value}
 use Rattle.rules.specs.Bytes.{after}
 use mathlib.Core.Path.{◌∙◌, ap}
 use Rattle.expr.proofs.Walk.{inits_full, inits_end}
-use Rattle.expr.proofs.Loops.{Gathering, gather_begin, inits_from_lem, inits-go, gather_end}
+use Rattle.expr.proofs.Loops.{Gathering, gather_begin, inits_from_lem, inits_go, gather_end}
 use Rattle.expr.proofs.Walk.{args_at}
 use Rattle.expr.proofs.Walk.{literal_value}
 use Rattle.expr.proofs.Walk.{mapping_value}
@@ -188,7 +188,7 @@ pub gen_args-loop-v-smaller : goal.gen_args-loop-v-smaller
 gen_args-loop-v-smaller t c = omega (arith, c.loop-v-test.true, ap (λ (x : Several). x.count) c.keep-v.ensures.0)
 
 pub gen_args-loop-v-preserved : goal.gen_args-loop-v-preserved
-gen_args-loop-v-preserved t c = args-go c.args.img.now _ _ _ c.args.rules c.args.scope.now c.args.d c.args.e c.loop-v.invariant c.loop-v-test.true (ltb-true _ _ c.if-p-e.true) c.gen_expr-a.ensures c.keep-v.ensures.0 c.keep-v.ensures.1 c.past-p.ensures.0 (c.gen_expr-a.auto.0, c.gen_expr-a.auto.1.0)
+gen_args-loop-v-preserved t c = args_go c.args.img.now _ _ _ c.args.rules c.args.scope.now c.args.d c.args.e c.loop-v.invariant c.loop-v-test.true (ltb-true _ _ c.if-p-e.true) c.gen_expr-a.ensures c.keep-v.ensures.0 c.keep-v.ensures.1 c.past-p.ensures.0 (c.gen_expr-a.auto.0, c.gen_expr-a.auto.1.0)
 
 pub gen_args-shape_of-code-else-p-e : goal.gen_args-shape_of-code-else-p-e
 gen_args-shape_of-code-else-p-e t c = c.loop-v.invariant.room.0
@@ -287,7 +287,7 @@ pub gen_inits-loop-v-smaller : goal.gen_inits-loop-v-smaller
 gen_inits-loop-v-smaller t c = omega (arith, c.loop-v-test.true, ap (λ (x : Several). x.count) c.keep-v.ensures.0)
 
 pub gen_inits-loop-v-preserved : goal.gen_inits-loop-v-preserved
-gen_inits-loop-v-preserved t c = inits-go c.args.img.now _ _ _ c.args.rules c.args.scope.now c.args.d c.args.e c.loop-v.invariant c.loop-v-test.true (ltb-true _ _ c.if-p-e.true) c.gen_expr-a.ensures (rw c.body.ensures.0 at c.past-q.ensures.0) c.keep-v.ensures.0 c.keep-v.ensures.1 c.past-p.ensures.0 (c.gen_expr-a.auto.0, c.gen_expr-a.auto.1.0)
+gen_inits-loop-v-preserved t c = inits_go c.args.img.now _ _ _ c.args.rules c.args.scope.now c.args.d c.args.e c.loop-v.invariant c.loop-v-test.true (ltb-true _ _ c.if-p-e.true) c.gen_expr-a.ensures (rw c.body.ensures.0 at c.past-q.ensures.0) c.keep-v.ensures.0 c.keep-v.ensures.1 c.past-p.ensures.0 (c.gen_expr-a.auto.0, c.gen_expr-a.auto.1.0)
 
 pub gen_inits-shape_of-code-else-p-e : goal.gen_inits-shape_of-code-else-p-e
 gen_inits-shape_of-code-else-p-e t c = c.loop-v.invariant.room.0

@@ -22,7 +22,7 @@ use mathlib.Core.Path.{ap}
 use borrow.Author.Tests.{ltb-true, ltb-false}
 use Rattle.expr.specs.declared.steps.Several.{Several}
 use Rattle.expr.proofs.Walk.{args_full, args_end}
-use Rattle.expr.proofs.Loops.{Gathering, gather_begin, args_from, args-go, gather_end}
+use Rattle.expr.proofs.Loops.{Gathering, gather_begin, args_from, args_go, gather_end}
 use Prim.Native.Nat.{ℕ, ◌-◌}
 use native.Mathlib.Omega.{arith}
 use borrow.Author.Rules.{rules}
@@ -42,7 +42,7 @@ use Rattle.expr.proofs.Walk.{field_value}
 use Rattle.rules.specs.Bytes.{after}
 use mathlib.Core.Path.{◌∙◌, ap}
 use Rattle.expr.proofs.Walk.{inits_full, inits_end}
-use Rattle.expr.proofs.Loops.{Gathering, gather_begin, inits_from_lem, inits-go, gather_end}
+use Rattle.expr.proofs.Loops.{Gathering, gather_begin, inits_from_lem, inits_go, gather_end}
 use Rattle.expr.proofs.Walk.{args_at}
 use Rattle.expr.proofs.Walk.{literal_value}
 use Rattle.expr.proofs.Walk.{mapping_value}

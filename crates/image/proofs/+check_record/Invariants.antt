@@ -6,7 +6,7 @@ use Rattle.rules.specs.Check.{ended}
 use Rattle.image.specs.Rows.{off}
 use Rattle.image.specs.Within.{Parts}
 use Rattle.image.proofs.Turns.{Turn, turn_start, passed_is, first_small}
-use Rattle.image.proofs.Loop.{turn_ended, turn_short, turn-refused, turn-own, turn-leaf, turn-tail, turn_in, turn-past}
+use Rattle.image.proofs.Loop.{turn_ended, turn_short, turn_refused, turn_own, turn_leaf, turn_tail, turn_in, turn_past}
 use borrow.Author.Rules.{rules}
 use Prim.Native.Nat.{ℕ, ◌+◌, ◌-◌, ◌%◌, ◌<◌}
 use borrow.Fn.Kinds.{In}

@@ -6,7 +6,7 @@ use native.Mathlib.Omega.{arith}
 use Rattle.rules.specs.Bytes.{name_at}
 use Rattle.rules.specs.Types.{find}
 use Rattle.lookup.specs.Answers.{env_of, got_of}
-use Rattle.lookup.proofs.Scopes.{find-hit, find-miss, find_none, find-other}
+use Rattle.lookup.proofs.Scopes.{find_hit, find_miss, find_none, find_other}
 use borrow.Author.Rules.{rules}
 use Rattle.lookup.proofs.find_local.Goals as goal
 
@@ -18,13 +18,13 @@ overflow_add-k c = omega arith
 
 pub returns-then-same_name : goal.returns-then-same_name
 unfolding got_of
-returns-then-same_name c = ap some (rw (c.number_in-n.ensures, c.cell-c.ensures) at (c.type_of.ensures c.args.img.now)) ∙ sym (c.loop-k.invariant.1 ∙ find-hit c.args.img.now c.args.env.now (name_at c.args.img.now c.args.x) c.loop-k.k c.loop-k-test.true (sym c.cell.ensures ∙ c.if-cell-key.true ∙ c.name_key-key.ensures) (sym (rw (c.place_in.ensures, c.cell-c.ensures) at c.same_name.ensures) ∙ c.if-same_name.true))
+returns-then-same_name c = ap some (rw (c.number_in-n.ensures, c.cell-c.ensures) at (c.type_of.ensures c.args.img.now)) ∙ sym (c.loop-k.invariant.1 ∙ find_hit c.args.img.now c.args.env.now (name_at c.args.img.now c.args.x) c.loop-k.k c.loop-k-test.true (sym c.cell.ensures ∙ c.if-cell-key.true ∙ c.name_key-key.ensures) (sym (rw (c.place_in.ensures, c.cell-c.ensures) at c.same_name.ensures) ∙ c.if-same_name.true))
 
 pub loop-k-preserved-else-same_name : goal.loop-k-preserved-else-same_name
-loop-k-preserved-else-same_name c = (omega arith, c.loop-k.invariant.1 ∙ find-miss c.args.img.now c.args.env.now (name_at c.args.img.now c.args.x) c.loop-k.k c.loop-k-test.true (sym (rw (c.place_in.ensures, c.cell-c.ensures) at c.same_name.ensures) ∙ c.if-same_name.false))
+loop-k-preserved-else-same_name c = (omega arith, c.loop-k.invariant.1 ∙ find_miss c.args.img.now c.args.env.now (name_at c.args.img.now c.args.x) c.loop-k.k c.loop-k-test.true (sym (rw (c.place_in.ensures, c.cell-c.ensures) at c.same_name.ensures) ∙ c.if-same_name.false))
 
 pub loop-k-preserved : goal.loop-k-preserved
-loop-k-preserved c = (omega arith, c.loop-k.invariant.1 ∙ find-other c.args.img.now c.args.env.now (name_at c.args.img.now c.args.x) c.loop-k.k c.loop-k-test.true (λ h. c.if-cell-key.false (c.cell.ensures ∙ h ∙ sym c.name_key-key.ensures)))
+loop-k-preserved c = (omega arith, c.loop-k.invariant.1 ∙ find_other c.args.img.now c.args.env.now (name_at c.args.img.now c.args.x) c.loop-k.k c.loop-k-test.true (λ h. c.if-cell-key.false (c.cell.ensures ∙ h ∙ sym c.name_key-key.ensures)))
 
 pub returns : goal.returns
 unfolding got_of

@@ -6,7 +6,7 @@ use native.Mathlib.Omega.{arith}
 use Rattle.rules.specs.Bytes.{name_at}
 use Rattle.rules.specs.Types.{find}
 use Rattle.lookup.specs.Answers.{env_of, got_of}
-use Rattle.lookup.proofs.Scopes.{find-hit, find-miss, find_none, find-other}
+use Rattle.lookup.proofs.Scopes.{find_hit, find_miss, find_none, find_other}
 use borrow.Author.Rules.{rules}
 use Rattle.lookup.proofs.find_local.Given as goal
 

@@ -10,3 +10,7 @@ use Rattle.records.proofs.key.Goals as goal
 pub returns-then-n-lt4 : goal.returns-then-n-lt4
 unfolding key_of
 returns-then-n-lt4 c = let z : length c.args.x.now - 4 ≡ 0 = omega arith in rw (z, c.few-all.ensures.0)
+
+pub returns : goal.returns
+unfolding key_of
+returns c = search rules

@@ -2,7 +2,7 @@
 use Prim.Native.Nat.{◌-◌, ◌≤◌}
 use native.Mathlib.Omega.{arith}
 use borrow.Author.Rules.{rules}
-use Rattle.seek.specs.Lists.{Args, rest_begin, args-go, args_in, args-past, args-whole}
+use Rattle.seek.specs.Lists.{Args, rest_begin, args_go, args_in, args_past, args_whole}
 use Rattle.seek.proofs.in_args.Given as goal
 
 abbrev pub invariant-loop-i : goal.invariant-loop-i

@@ -2,7 +2,7 @@
 use Prim.Native.Nat.{◌-◌, ◌≤◌}
 use native.Mathlib.Omega.{arith}
 use borrow.Author.Rules.{rules}
-use Rattle.seek.specs.Lists.{Inits, rest_begin, inits-go, inits-in, inits-past, inits-whole}
+use Rattle.seek.specs.Lists.{Inits, rest_begin, inits_go, inits_in, inits_past, inits_whole}
 use Rattle.seek.proofs.in_inits.Given as goal
 
 abbrev pub invariant-loop-i : goal.invariant-loop-i

@@ -1,5 +1,5 @@
 -- +analyze_else_analyze_for_analyze_if_analyze_list_analyze_loop_analyze_stmt_analyze_while meets its contract.
-use Rattle.rules.specs.Meant.{ofStmt, ofStmts}
+use Rattle.rules.specs.Meant.{of_stmt, of_stmts}
 use Prim.Native.Nat.{◌*◌, ◌+◌, ◌-◌, ◌≤◌}
 use Rattle.bounds.specs.Sizes.{vars, vars-stmts}
 use Rattle.lookup.specs.Answers.{ty_of, typed_of}
@@ -7,7 +7,7 @@ use Rattle.lookup.specs.Scope.{pushed_env}
 use Rattle.rules.specs.Analyse.{stmt, stmts}
 use Rattle.rules.specs.Bytes.{pick}
 use Rattle.rules.specs.Read.{body_at, expr_at, sFor, sIf, sLet, sWhile, stmt_as, stmt_at_lem, stmt_kind_of, stmts_from}
-use Rattle.sema.proofs.Runs.{first_bad, first_ok, for-bad, for-done, in_top, step_bad, step_then, still_ok}
+use Rattle.sema.proofs.Runs.{first_bad, first_ok, for_bad, for_done, in_top, step_bad, step_then, still_ok}
 use Rattle.sema.proofs.Trees.{else_not, else_there, stmt_kind, stmt_zero, stmts_end, stmts_more, stmts_zero, vars_for, vars_if, vars_let, vars_more, vars_while}
 use Rattle.sema.specs.Steps.{Steps, in_loop}
 use Rattle.sema.specs.declared.After.{After}
@@ -106,7 +106,7 @@ pub analyze_else-returns-then-at-end : goal.analyze_else-returns-then-at-end
 analyze_else-returns-then-at-end t c = rw (else_there (stmt_at_lem c.args.d c.args.img.now) c.args.img.now c.args.at c.args.end c.if-at-end.true) c.analyze_list.ensures
 
 pub analyze_else-returns-else-at-end : goal.analyze_else-returns-else-at-end
-unfolding stmts ofStmts vars-stmts
+unfolding stmts of_stmts vars-stmts
 analyze_else-returns-else-at-end t c = rw (else_not (stmt_at_lem c.args.d c.args.img.now) c.args.img.now c.args.at c.args.end c.if-at-end.false) (still_ok refl)
 
 pub analyze_for-analyze_expr-t-requires : goal.analyze_for-analyze_expr-t-requires
@@ -119,15 +119,15 @@ pub analyze_for-analyze_loop-requires : goal.analyze_for-analyze_loop-requires
 analyze_for-analyze_loop-requires t c = (omega arith, (c.requires.1.0, rw (c.past.ensures.0, c.past-to.ensures.0, c.past-from.ensures.0, c.body-x.ensures.0) (omega (arith, vars_for (expr_at c.args.d c.args.img.now) (stmt_at_lem c.args.d c.args.img.now) c.args.img.now c.args.at, c.requires.1.1))))
 
 pub analyze_for-returns-in-Is-u : goal.analyze_for-returns-in-Is-u
-unfolding stmt ofStmt stmt_as vars typed_of in_loop
+unfolding stmt of_stmt stmt_as vars typed_of in_loop
 analyze_for-returns-in-Is-u t c = first_ok _ _ (sym (ap (typed_of c.args.img.now) c.in-Is.is) ∙ rw (c.past-from.ensures.0, c.body-x.ensures.0) at c.analyze_expr-t.ensures.0) ((rw (c.past-from.ensures.0, c.body-x.ensures.0) at c.analyze_expr-t.ensures.1).all _ (ap (typed_of c.args.img.now) c.in-Is.is)) (first_ok _ _ (sym (ap (typed_of c.args.img.now) c.in-Is-u.is) ∙ rw (c.past-to.ensures.0, c.past-from.ensures.0, c.body-x.ensures.0) at c.analyze_expr-u.ensures.0) ((rw (c.past-to.ensures.0, c.past-from.ensures.0, c.body-x.ensures.0) at c.analyze_expr-u.ensures.1).all _ (ap (typed_of c.args.img.now) c.in-Is-u.is)) (rw (c.past.ensures.0, c.past-to.ensures.0, c.past-from.ensures.0, c.body-x.ensures.0) at c.analyze_loop.ensures))
 
 pub analyze_for-returns-in-Refused-u : goal.analyze_for-returns-in-Refused-u
-unfolding stmt ofStmt stmt_as vars typed_of
+unfolding stmt of_stmt stmt_as vars typed_of
 analyze_for-returns-in-Refused-u t c = first_ok _ _ (sym (ap (typed_of c.args.img.now) c.in-Is.is) ∙ rw (c.past-from.ensures.0, c.body-x.ensures.0) at c.analyze_expr-t.ensures.0) ((rw (c.past-from.ensures.0, c.body-x.ensures.0) at c.analyze_expr-t.ensures.1).all _ (ap (typed_of c.args.img.now) c.in-Is.is)) (first_bad _ (sym (ap (typed_of c.args.img.now) c.in-Refused-u.is) ∙ rw (c.past-to.ensures.0, c.past-from.ensures.0, c.body-x.ensures.0) at c.analyze_expr-u.ensures.0))
 
 pub analyze_for-returns-in-Refused : goal.analyze_for-returns-in-Refused
-unfolding stmt ofStmt stmt_as vars typed_of
+unfolding stmt of_stmt stmt_as vars typed_of
 analyze_for-returns-in-Refused t c = first_bad _ (sym (ap (typed_of c.args.img.now) c.in-Refused.is) ∙ rw (c.past-from.ensures.0, c.body-x.ensures.0) at c.analyze_expr-t.ensures.0)
 
 pub analyze_if-analyze_expr-t-requires : goal.analyze_if-analyze_expr-t-requires
@@ -140,37 +140,37 @@ pub analyze_if-analyze_else-requires : goal.analyze_if-analyze_else-requires
 analyze_if-analyze_else-requires t c = (omega (arith, c.requires.0), (c.requires.1.0, rw (c.past-end.ensures.0, c.past-other.ensures.0, c.past-then.ensures.0, c.body-test.ensures.0) (omega (arith, vars_if (expr_at c.args.d c.args.img.now) (stmt_at_lem c.args.d c.args.img.now) c.args.img.now c.args.at, c.requires.1.1, (in_top (rw (c.past-then.ensures.0, c.body-test.ensures.0) at c.analyze_list-a.ensures) c.in-Top.is).1, c.analyze_list-a.ensures.size))))
 
 pub analyze_if-returns-in-Top : goal.analyze_if-returns-in-Top
-unfolding stmt ofStmt stmt_as vars typed_of
+unfolding stmt of_stmt stmt_as vars typed_of
 analyze_if-returns-in-Top t c = first_ok _ _ (sym (ap (typed_of c.args.img.now) c.in-Is.is) ∙ rw c.body-test.ensures.0 at c.analyze_expr-t.ensures.0) ((rw c.body-test.ensures.0 at c.analyze_expr-t.ensures.1).all _ (ap (typed_of c.args.img.now) c.in-Is.is)) (step_then (rw (c.past-then.ensures.0, c.body-test.ensures.0) at c.analyze_list-a.ensures) _ _ c.in-Top.is (rw (c.past-end.ensures.0, c.past-other.ensures.0, c.past-then.ensures.0, c.body-test.ensures.0) at c.analyze_else.ensures))
 
 pub analyze_if-returns-in-Refused-a : goal.analyze_if-returns-in-Refused-a
-unfolding stmt ofStmt stmt_as vars typed_of
+unfolding stmt of_stmt stmt_as vars typed_of
 analyze_if-returns-in-Refused-a t c = first_ok _ _ (sym (ap (typed_of c.args.img.now) c.in-Is.is) ∙ rw c.body-test.ensures.0 at c.analyze_expr-t.ensures.0) ((rw c.body-test.ensures.0 at c.analyze_expr-t.ensures.1).all _ (ap (typed_of c.args.img.now) c.in-Is.is)) (step_bad (rw (c.past-then.ensures.0, c.body-test.ensures.0) at c.analyze_list-a.ensures) _ c.in-Refused-a.is)
 
 pub analyze_if-returns-in-Refused : goal.analyze_if-returns-in-Refused
-unfolding stmt ofStmt stmt_as vars typed_of
+unfolding stmt of_stmt stmt_as vars typed_of
 analyze_if-returns-in-Refused t c = first_bad _ (sym (ap (typed_of c.args.img.now) c.in-Refused.is) ∙ rw c.body-test.ensures.0 at c.analyze_expr-t.ensures.0)
 
 pub analyze_list-loop-k-init : goal.analyze_list-loop-k-init
 analyze_list-loop-k-init t c = (rw (c.body-p.ensures.0, c.past-end.ensures.0) c.requires.1.1, (refl, λ e2 M r s. rw (c.body-p.ensures.0, c.past-end.ensures.0) at s))
 
 pub analyze_list-returns-then-end-p : goal.analyze_list-returns-then-end-p
-unfolding stmts ofStmts vars-stmts
+unfolding stmts of_stmts vars-stmts
 analyze_list-returns-then-end-p t c = c.loop-k.invariant.1.1 _ _ _ (rw (stmts_end (stmt_at_lem c.args.d c.args.img.now) c.args.img.now c.loop-k.k c.loop-k.p c.past-end.result c.if-end-p.true) (still_ok refl))
 
 pub analyze_list-analyze_stmt-a-requires : goal.analyze_list-analyze_stmt-a-requires
 analyze_list-analyze_stmt-a-requires t c = (omega arith, (c.requires.1.0, omega (arith, vars_more (stmt_at_lem c.args.d c.args.img.now) c.args.img.now c.loop-k.k c.loop-k.p c.past-end.result c.loop-k-test.true c.if-end-p.false, c.loop-k.invariant.0)))
 
 pub analyze_list-loop-k-preserved : goal.analyze_list-loop-k-preserved
-unfolding stmts ofStmts vars-stmts
+unfolding stmts of_stmts vars-stmts
 analyze_list-loop-k-preserved t c = (rw c.past-p.ensures.0 (omega (arith, vars_more (stmt_at_lem c.args.d c.args.img.now) c.args.img.now c.loop-k.k c.loop-k.p c.past-end.result c.loop-k-test.true c.if-end-p.false, c.loop-k.invariant.0, (in_top c.analyze_stmt-a.ensures c.in-Top.is).1, c.analyze_stmt-a.ensures.size)), (c.analyze_stmt-a.ensures.size ∙ c.loop-k.invariant.1.0, λ e2 M r s. c.loop-k.invariant.1.1 e2 M r (rw (stmts_more (stmt_at_lem c.args.d c.args.img.now) c.args.img.now c.loop-k.k c.loop-k.p c.past-end.result c.loop-k-test.true c.if-end-p.false) (step_then c.analyze_stmt-a.ensures _ _ c.in-Top.is (rw c.past-p.ensures.0 at s)))))
 
 pub analyze_list-returns-in-Refused : goal.analyze_list-returns-in-Refused
-unfolding stmts ofStmts vars-stmts
+unfolding stmts of_stmts vars-stmts
 analyze_list-returns-in-Refused t c = c.loop-k.invariant.1.1 _ _ _ (rw (stmts_more (stmt_at_lem c.args.d c.args.img.now) c.args.img.now c.loop-k.k c.loop-k.p c.past-end.result c.loop-k-test.true c.if-end-p.false) (step_bad c.analyze_stmt-a.ensures _ c.in-Refused.is))
 
 pub analyze_list-returns : goal.analyze_list-returns
-unfolding stmts ofStmts vars-stmts
+unfolding stmts of_stmts vars-stmts
 analyze_list-returns t c = c.loop-k.invariant.1.1 _ _ _ (rw (stmts_zero (stmt_at_lem c.args.d c.args.img.now) c.args.img.now c.loop-k.k c.loop-k.p c.past-end.result c.loop-k-test.false) (still_ok refl))
 
 pub analyze_loop-push-inner-requires : goal.analyze_loop-push-inner-requires
@@ -181,14 +181,14 @@ analyze_loop-analyze_list-a-requires t c = (omega arith, (c.requires.1.0, omega 
 
 pub analyze_loop-returns-in-Top : goal.analyze_loop-returns-in-Top
 unfolding in_loop ty_of
-analyze_loop-returns-in-Top t c = for-done c.push-inner.ensures (rw (pushed_env c.push-inner.ensures) at c.analyze_list-a.ensures) c.in-Top.is
+analyze_loop-returns-in-Top t c = for_done c.push-inner.ensures (rw (pushed_env c.push-inner.ensures) at c.analyze_list-a.ensures) c.in-Top.is
 
 pub analyze_loop-returns-in-Refused : goal.analyze_loop-returns-in-Refused
 unfolding in_loop ty_of
-analyze_loop-returns-in-Refused t c = for-bad c.push-inner.ensures (rw (pushed_env c.push-inner.ensures) at c.analyze_list-a.ensures) c.in-Refused.is
+analyze_loop-returns-in-Refused t c = for_bad c.push-inner.ensures (rw (pushed_env c.push-inner.ensures) at c.analyze_list-a.ensures) c.in-Refused.is
 
 pub analyze_stmt-returns-then-d-eq0 : goal.analyze_stmt-returns-then-d-eq0
-unfolding stmt ofStmt vars
+unfolding stmt of_stmt vars
 analyze_stmt-returns-then-d-eq0 t c = rw (stmt_zero c.args.d c.args.img.now c.args.at c.if-d-eq0.true) (still_ok refl)
 
 pub analyze_stmt-analyze_let-requires : goal.analyze_stmt-analyze_let-requires
@@ -236,9 +236,9 @@ pub analyze_while-analyze_list-requires : goal.analyze_while-analyze_list-requir
 analyze_while-analyze_list-requires t c = (omega arith, (c.requires.1.0, rw (c.past.ensures.0, c.body-test.ensures.0) (omega (arith, vars_while (expr_at c.args.d c.args.img.now) (stmt_at_lem c.args.d c.args.img.now) c.args.img.now c.args.at, c.requires.1.1))))
 
 pub analyze_while-returns-in-Is : goal.analyze_while-returns-in-Is
-unfolding stmt ofStmt stmt_as vars typed_of
+unfolding stmt of_stmt stmt_as vars typed_of
 analyze_while-returns-in-Is t c = first_ok _ _ (sym (ap (typed_of c.args.img.now) c.in-Is.is) ∙ rw c.body-test.ensures.0 at c.analyze_expr-t.ensures.0) ((rw c.body-test.ensures.0 at c.analyze_expr-t.ensures.1).all _ (ap (typed_of c.args.img.now) c.in-Is.is)) (rw (c.past.ensures.0, c.body-test.ensures.0) at c.analyze_list.ensures)
 
 pub analyze_while-returns-in-Refused : goal.analyze_while-returns-in-Refused
-unfolding stmt ofStmt stmt_as vars typed_of
+unfolding stmt of_stmt stmt_as vars typed_of
 analyze_while-returns-in-Refused t c = first_bad _ (sym (ap (typed_of c.args.img.now) c.in-Refused.is) ∙ rw c.body-test.ensures.0 at c.analyze_expr-t.ensures.0)

@@ -1,5 +1,5 @@
 -- +analyze_else_analyze_for_analyze_if_analyze_list_analyze_loop_analyze_stmt_analyze_while meets its contract.
-use Rattle.rules.specs.Meant.{ofStmt, ofStmts}
+use Rattle.rules.specs.Meant.{of_stmt, of_stmts}
 use Prim.Native.Nat.{◌*◌, ◌+◌, ◌-◌, ◌≤◌}
 use Rattle.bounds.specs.Sizes.{vars, vars-stmts}
 use Rattle.lookup.specs.Answers.{ty_of, typed_of}
@@ -7,7 +7,7 @@ use Rattle.lookup.specs.Scope.{pushed_env}
 use Rattle.rules.specs.Analyse.{stmt, stmts}
 use Rattle.rules.specs.Bytes.{pick}
 use Rattle.rules.specs.Read.{body_at, expr_at, sFor, sIf, sLet, sWhile, stmt_as, stmt_at_lem, stmt_kind_of, stmts_from}
-use Rattle.sema.proofs.Runs.{first_bad, first_ok, for-bad, for-done, in_top, step_bad, step_then, still_ok}
+use Rattle.sema.proofs.Runs.{first_bad, first_ok, for_bad, for_done, in_top, step_bad, step_then, still_ok}
 use Rattle.sema.proofs.Trees.{else_not, else_there, stmt_kind, stmt_zero, stmts_end, stmts_more, stmts_zero, vars_for, vars_if, vars_let, vars_more, vars_while}
 use Rattle.sema.specs.Steps.{Steps, in_loop}
 use Rattle.sema.specs.declared.After.{After}

@@ -5,7 +5,7 @@ use Rattle.notes.specs.Notes.{written}
 use Rattle.notes.specs.Wrote.{refused, wrote}
 use Prim.Native.Nat.{◌-◌, ◌≤◌}
 use Rattle.lookup.specs.Answers.{checked_of}
-use Rattle.sema.proofs.Functions.{accesses_from, from, from-bad, from-done, from_next, from_start, names_fit, notes_done, notes_next, notes_start}
+use Rattle.sema.proofs.Functions.{accesses_from, from, from_bad, from_done, from_next, from_start, names_fit, notes_done, notes_next, notes_start}
 use Rattle.sema.specs.Entry.{analysis}
 use Rattle.tables.specs.Listed.{functions_in}
 use borrow.Author.Rules.{rules}
@@ -32,8 +32,8 @@ loop-i-preserved c = (omega (arith, c.loop-i-test.true, c.function_count-n.ensur
 
 pub returns-in-Refused : goal.returns-in-Refused
 unfolding checked_of
-returns-in-Refused c = rw c.in-Refused.is (from-bad c.args.img.now c.loop-i.i (omega (arith, c.loop-i-test.true, c.function_count-n.ensures c.args.img.now c.requires.0)) (sym (ap (checked_of c.args.img.now) c.in-Refused.is) ∙ rw (c.function_place-p.ensures c.args.img.now c.requires.0 (omega (arith, c.loop-i-test.true, c.function_count-n.ensures c.args.img.now c.requires.0))) at c.analyze_function-a.ensures.0) ∙ sym c.loop-i.invariant.1.1.0, refused (contract_at c.args.img.now) _ _ refl)
+returns-in-Refused c = rw c.in-Refused.is (from_bad c.args.img.now c.loop-i.i (omega (arith, c.loop-i-test.true, c.function_count-n.ensures c.args.img.now c.requires.0)) (sym (ap (checked_of c.args.img.now) c.in-Refused.is) ∙ rw (c.function_place-p.ensures c.args.img.now c.requires.0 (omega (arith, c.loop-i-test.true, c.function_count-n.ensures c.args.img.now c.requires.0))) at c.analyze_function-a.ensures.0) ∙ sym c.loop-i.invariant.1.1.0, refused (contract_at c.args.img.now) _ _ refl)
 
 pub returns : goal.returns
 unfolding checked_of
-returns c = (from-done c.args.img.now c.loop-i.i (omega (arith, c.loop-i-test.false, c.function_count-n.ensures c.args.img.now c.requires.0)) ∙ sym c.loop-i.invariant.1.1.0, wrote (contract_at c.args.img.now) _ (sym (c.loop-i.invariant.1.1.1 ∙ notes_done c.args.img.now _ c.loop-i.i (omega (arith, c.loop-i-test.false, c.function_count-n.ensures c.args.img.now c.requires.0)))))
+returns c = (from_done c.args.img.now c.loop-i.i (omega (arith, c.loop-i-test.false, c.function_count-n.ensures c.args.img.now c.requires.0)) ∙ sym c.loop-i.invariant.1.1.0, wrote (contract_at c.args.img.now) _ (sym (c.loop-i.invariant.1.1.1 ∙ notes_done c.args.img.now _ c.loop-i.i (omega (arith, c.loop-i-test.false, c.function_count-n.ensures c.args.img.now c.requires.0)))))

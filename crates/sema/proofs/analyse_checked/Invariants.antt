@@ -5,7 +5,7 @@ use Rattle.notes.specs.Notes.{written}
 use Rattle.notes.specs.Wrote.{refused, wrote}
 use Prim.Native.Nat.{◌-◌, ◌≤◌}
 use Rattle.lookup.specs.Answers.{checked_of}
-use Rattle.sema.proofs.Functions.{accesses_from, from, from-bad, from-done, from_next, from_start, names_fit, notes_done, notes_next, notes_start}
+use Rattle.sema.proofs.Functions.{accesses_from, from, from_bad, from_done, from_next, from_start, names_fit, notes_done, notes_next, notes_start}
 use Rattle.sema.specs.Entry.{analysis}
 use Rattle.tables.specs.Listed.{functions_in}
 use borrow.Author.Rules.{rules}

@@ -1,5 +1,5 @@
 -- analyze_assign meets its contract.
-use Rattle.rules.specs.Meant.{ofStmt}
+use Rattle.rules.specs.Meant.{of_stmt}
 use Rattle.bounds.specs.Sizes.{vars}
 use Rattle.lookup.specs.Answers.{fault_of, got_of, typed_of}
 use Rattle.lookup.specs.Results.{known_none, known_some, then_bad}
@@ -14,13 +14,13 @@ pub analyze_expr-t-requires : goal.analyze_expr-t-requires
 analyze_expr-t-requires c = c.requires
 
 pub returns-in-Is : goal.returns-in-Is
-unfolding stmt ofStmt stmt_as vars typed_of got_of
+unfolding stmt of_stmt stmt_as vars typed_of got_of
 returns-in-Is c = λ R. behind_ok _ (known_some _ (sym (ap (got_of c.args.img.now) c.in-Type.is) ∙ rw c.body-x.ensures.0 at c.find_local-g.ensures)) (last_ok _ _ (sym (ap (typed_of c.args.img.now) c.in-Is.is) ∙ rw (c.past.ensures.0, c.body-x.ensures.0) at c.analyze_expr-t.ensures.0) ((rw (c.past.ensures.0, c.body-x.ensures.0) at c.analyze_expr-t.ensures.1).all _ (ap (typed_of c.args.img.now) c.in-Is.is)) (c.assigned.ensures _ _))
 
 pub returns-in-Refused : goal.returns-in-Refused
-unfolding stmt ofStmt stmt_as vars typed_of got_of
+unfolding stmt of_stmt stmt_as vars typed_of got_of
 returns-in-Refused c = λ R. behind_ok _ (known_some _ (sym (ap (got_of c.args.img.now) c.in-Type.is) ∙ rw c.body-x.ensures.0 at c.find_local-g.ensures)) (first_bad _ (sym (ap (typed_of c.args.img.now) c.in-Refused.is) ∙ rw (c.past.ensures.0, c.body-x.ensures.0) at c.analyze_expr-t.ensures.0))
 
 pub returns-in-Missing : goal.returns-in-Missing
-unfolding stmt ofStmt stmt_as vars fault_of got_of
+unfolding stmt of_stmt stmt_as vars fault_of got_of
 returns-in-Missing c = λ R. still_bad (rw c.body-x.ensures.0 (then_bad _ (known_none _ (sym (ap (got_of c.args.img.now) c.in-Missing.is) ∙ rw c.body-x.ensures.0 at c.find_local-g.ensures))))

@@ -1,5 +1,5 @@
 -- analyze_let meets its contract.
-use Rattle.rules.specs.Meant.{ofStmt}
+use Rattle.rules.specs.Meant.{of_stmt}
 use Rattle.bounds.specs.Sizes.{vars}
 use Rattle.lookup.specs.Answers.{typed_of}
 use Rattle.rules.specs.Analyse.{stmt}
@@ -16,9 +16,9 @@ pub push-requires : goal.push-requires
 push-requires c = (c.requires.1, c.requires.0.small)
 
 pub returns-in-Is : goal.returns-in-Is
-unfolding stmt ofStmt stmt_as vars typed_of
+unfolding stmt of_stmt stmt_as vars typed_of
 returns-in-Is c = λ R. last_ok _ _ (sym (ap (typed_of c.args.img.now) c.in-Is.is) ∙ rw (c.past.ensures.0, c.body-x.ensures.0) at c.analyze_expr-t.ensures.0) ((rw (c.past.ensures.0, c.body-x.ensures.0) at c.analyze_expr-t.ensures.1).all _ (ap (typed_of c.args.img.now) c.in-Is.is)) (push_step (rw c.body-x.ensures.0 at c.push.ensures))
 
 pub returns-in-Refused : goal.returns-in-Refused
-unfolding stmt ofStmt stmt_as vars typed_of
+unfolding stmt of_stmt stmt_as vars typed_of
 returns-in-Refused c = λ R. first_bad _ (sym (ap (typed_of c.args.img.now) c.in-Refused.is) ∙ rw (c.past.ensures.0, c.body-x.ensures.0) at c.analyze_expr-t.ensures.0)

@@ -1,5 +1,5 @@
 -- analyze_return meets its contract.
-use Rattle.rules.specs.Meant.{ofStmt}
+use Rattle.rules.specs.Meant.{of_stmt}
 use Rattle.bounds.specs.Sizes.{vars}
 use Rattle.lookup.specs.Answers.{ty_of, typed_of}
 use Rattle.rules.specs.Analyse.{stmt}
@@ -14,13 +14,13 @@ pub analyze_expr-t-requires : goal.analyze_expr-t-requires
 analyze_expr-t-requires c = c.requires
 
 pub returns-in-Is : goal.returns-in-Is
-unfolding stmt ofStmt vars typed_of
+unfolding stmt of_stmt vars typed_of
 returns-in-Is c = rw (return_there c.args.img.now c.args.at c.body-value.ensures.0 c.past.ensures.0 (expr_at c.args.d c.args.img.now) (stmt_at_lem c.args.d c.args.img.now) c.if-value-past.true) (last_ok _ _ (sym (ap (typed_of c.args.img.now) c.in-Is.is) ∙ rw c.body-value.ensures.0 at c.analyze_expr-t.ensures.0) ((rw c.body-value.ensures.0 at c.analyze_expr-t.ensures.1).all _ (ap (typed_of c.args.img.now) c.in-Is.is)) (c.returned.ensures _ _))
 
 pub returns-in-Refused : goal.returns-in-Refused
-unfolding stmt ofStmt vars typed_of
+unfolding stmt of_stmt vars typed_of
 returns-in-Refused c = rw (return_there c.args.img.now c.args.at c.body-value.ensures.0 c.past.ensures.0 (expr_at c.args.d c.args.img.now) (stmt_at_lem c.args.d c.args.img.now) c.if-value-past.true) (first_bad _ (sym (ap (typed_of c.args.img.now) c.in-Refused.is) ∙ rw c.body-value.ensures.0 at c.analyze_expr-t.ensures.0))
 
 pub returns-else-value-past : goal.returns-else-value-past
-unfolding stmt ofStmt vars ty_of
+unfolding stmt of_stmt vars ty_of
 returns-else-value-past c = rw (return_not c.args.img.now c.args.at c.body-value.ensures.0 c.past.ensures.0 (expr_at c.args.d c.args.img.now) (stmt_at_lem c.args.d c.args.img.now) c.if-value-past.false) (c.returned-else-value-past.ensures _ _)

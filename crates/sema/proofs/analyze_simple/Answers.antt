@@ -1,5 +1,5 @@
 -- analyze_simple meets its contract.
-use Rattle.rules.specs.Meant.{ofStmt}
+use Rattle.rules.specs.Meant.{of_stmt}
 use Rattle.bounds.specs.Sizes.{vars}
 use Rattle.rules.specs.Analyse.{stmt}
 use Rattle.rules.specs.Bytes.{pick}
@@ -33,7 +33,7 @@ pub run_expr-requires-in-42 : goal.run_expr-requires-in-42
 run_expr-requires-in-42 c = c.requires.0
 
 pub returns-in-33 : goal.returns-in-33
-unfolding stmt ofStmt stmt_as vars stmt_kind_of pick only
+unfolding stmt of_stmt stmt_as vars stmt_kind_of pick only
 returns-in-33 c = rw c.in-33.is (rw c.body.ensures.0 at c.run_expr.ensures)
 
 pub returns-in-34 : goal.returns-in-34
@@ -41,7 +41,7 @@ unfolding stmt_kind_of pick
 returns-in-34 c = rw c.in-34.is (c.analyze_assign.ensures _)
 
 pub returns-in-35 : goal.returns-in-35
-unfolding stmt ofStmt stmt_as vars stmt_kind_of pick only
+unfolding stmt of_stmt stmt_as vars stmt_kind_of pick only
 returns-in-35 c = rw c.in-35.is (rw (c.past.ensures.0, c.body-in-35.ensures.0) at c.run_expr-in-35.ensures)
 
 pub returns-in-36 : goal.returns-in-36
@@ -57,9 +57,9 @@ unfolding stmt_kind_of pick
 returns-in-41 c = rw c.in-41.is (c.analyze_emit.ensures _)
 
 pub returns-in-42 : goal.returns-in-42
-unfolding stmt ofStmt stmt_as vars stmt_kind_of pick only
+unfolding stmt of_stmt stmt_as vars stmt_kind_of pick only
 returns-in-42 c = rw c.in-42.is (rw c.body-in-42.ensures.0 at c.run_expr-in-42.ensures)
 
 pub returns-in_default : goal.returns-in_default
-unfolding stmt ofStmt stmt_as vars
+unfolding stmt of_stmt stmt_as vars
 returns-in_default c = rw (kind_rest c.args.k c.requires.1.0 c.in_default.in_default-own.rest.0.0.0.0.0.0.1 c.in_default.in_default-own.rest.0.0.0.0.0.1 c.in_default.in_default-own.rest.0.0.0.0.1 c.in_default.in_default-own.rest.0.0.0.1 c.requires.1.1.0 c.requires.1.1.1.0 c.requires.1.1.1.1 c.in_default.in_default-own.rest.0.0.1 c.in_default.in_default-own.rest.0.1 c.in_default.in_default-own.rest.1) (still_ok refl)

@@ -1,5 +1,5 @@
 -- analyze_write meets its contract.
-use Rattle.rules.specs.Meant.{ofStmt}
+use Rattle.rules.specs.Meant.{of_stmt}
 use Rattle.bounds.specs.Sizes.{vars}
 use Rattle.lookup.specs.Answers.{typed_of}
 use Rattle.rules.specs.Analyse.{stmt}
@@ -17,9 +17,9 @@ pub run_expr-requires : goal.run_expr-requires
 run_expr-requires c = c.requires
 
 pub returns-in-Is : goal.returns-in-Is
-unfolding stmt ofStmt stmt_as vars typed_of only
+unfolding stmt of_stmt stmt_as vars typed_of only
 returns-in-Is c = λ R. first_ok _ _ (sym (ap (typed_of c.args.img.now) c.in-Is.is) ∙ rw (c.past-key.ensures.0, c.body.ensures.0) at c.analyze_expr-t.ensures.0) ((rw (c.past-key.ensures.0, c.body.ensures.0) at c.analyze_expr-t.ensures.1).all _ (ap (typed_of c.args.img.now) c.in-Is.is)) (rw (c.past.ensures.0, c.past-key.ensures.0, c.body.ensures.0) at c.run_expr.ensures)
 
 pub returns-in-Refused : goal.returns-in-Refused
-unfolding stmt ofStmt stmt_as vars typed_of
+unfolding stmt of_stmt stmt_as vars typed_of
 returns-in-Refused c = λ R. first_bad _ (sym (ap (typed_of c.args.img.now) c.in-Refused.is) ∙ rw (c.past-key.ensures.0, c.body.ensures.0) at c.analyze_expr-t.ensures.0)

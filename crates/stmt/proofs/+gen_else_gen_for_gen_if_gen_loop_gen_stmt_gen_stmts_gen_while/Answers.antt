@@ -125,7 +125,7 @@ pub gen_else-returns-then-list-end : goal.gen_else-returns-then-list-end
 gen_else-returns-then-list-end t c = rw (else_some (stmt_at_lem c.args.d c.args.img.now) c.args.img.now c.args.list c.args.end c.if-list-end.true) (rw (c.body-p.ensures.0, c.past-q.ensures.0) at c.gen_stmts.ensures)
 
 pub gen_else-returns-else-list-end : goal.gen_else-returns-else-list-end
-unfolding steps.gen-stmts
+unfolding steps.gen_stmts_lem
 gen_else-returns-else-list-end t c = rw (else_none (stmt_at_lem c.args.d c.args.img.now) c.args.img.now c.args.list c.args.end c.if-list-end.false) (record { ran = still (raw _) refl refl; frame = idle _ _ })
 
 pub gen_for-bounds-scope-0 : goal.gen_for-bounds-scope-0
@@ -158,7 +158,7 @@ pub gen_for-shape_of-scope : goal.gen_for-shape_of-scope
 gen_for-shape_of-scope t c = simp length-set (c.gen_loop-l.auto.1.1.0 ∙ c.bind.auto.0)
 
 pub gen_for-returns : goal.gen_for-returns
-unfolding steps.gen-stmt stmt_as vars for_loop stepping
+unfolding steps.gen_stmt_lem stmt_as vars for_loop stepping
 gen_for-returns t c = record {
   ran = rw (put_back c.args.img.now (joined c.bind.ensures.frame c.gen_loop-l.ensures.frame) (omega (arith, c.requires.1.size, c.gen_loop-l.auto.1.1.0, c.bind.auto.0)), c.with.ensures)
       (seq (raw _) _ (rw (c.past-from.ensures.0, c.body-var.ensures.0) at c.gen_expr-v.ensures)
@@ -190,7 +190,7 @@ pub gen_if-shape_of-scope : goal.gen_if-shape_of-scope
 gen_if-shape_of-scope t c = c.gen_stmts-t.auto.1.1.0 ∙ c.gen_else-e.auto.1.1.0
 
 pub gen_if-returns : goal.gen_if-returns
-unfolding steps.gen-stmt stmt_as vars
+unfolding steps.gen_stmt_lem stmt_as vars
 gen_if-returns t c = record {
   ran = seq (raw _) _ (rw c.body-cond.ensures.0 at c.gen_expr-v.ensures)
       (seq (raw _) _ (slotted (raw _) (λ d. jump c.args.at op.Jnz (c.gen_expr-v.result.reg % 256) (Imm.pos (d + 2))) _ c.open_slot-a.ensures.reserved (rw (third_is c.args.img.now c.args.at c.body-cond.ensures.0 c.past-then.ensures.0 c.past-el.ensures.0, c.past-end.ensures.0, c.open_slot-a.ensures.next) at c.gen_else-e.ensures.ran) (c.land.ensures.stored _ _))
@@ -224,7 +224,7 @@ gen_loop-returns t c = record {
 }
 
 pub gen_stmt-returns-then-depth-eq0 : goal.gen_stmt-returns-then-depth-eq0
-unfolding steps.gen-stmt
+unfolding steps.gen_stmt_lem
 gen_stmt-returns-then-depth-eq0 t c = rw (at_none c.args.depth c.args.img.now c.args.at c.if-depth-eq0.true) (record { ran = still (raw _) refl refl; frame = idle _ _ })
 
 pub gen_stmt-gen_let-requires : goal.gen_stmt-gen_let-requires
@@ -316,7 +316,7 @@ unfolding stmt_kind_of pick
 gen_stmt-returns-in-42 t c = rw (at_kind c.args.depth c.args.img.now c.args.at c.kind-k.result sExpr c.if-depth-eq0.false c.kind-k.ensures.0 (ap stmt_kind_of c.in-42.is)) c.gen_just.ensures
 
 pub gen_stmt-returns-in_default : goal.gen_stmt-returns-in_default
-unfolding steps.gen-stmt stmt_as
+unfolding steps.gen_stmt_lem stmt_as
 gen_stmt-returns-in_default t c = rw (at_kind c.args.depth c.args.img.now c.args.at c.kind-k.result sOther c.if-depth-eq0.false c.kind-k.ensures.0 (other c.kind-k.result c.in_default.in_default-own.rest.0.0.0.0.0.0.0.0.0.0.1 c.in_default.in_default-own.rest.0.0.0.0.0.0.0.0.0.1 c.in_default.in_default-own.rest.0.0.0.0.0.0.0.0.1 c.in_default.in_default-own.rest.0.0.0.0.0.0.0.1 c.in_default.in_default-own.rest.0.0.0.0.0.0.1 c.in_default.in_default-own.rest.0.0.0.0.0.1 c.in_default.in_default-own.rest.0.0.0.0.1 c.in_default.in_default-own.rest.0.0.0.1 c.in_default.in_default-own.rest.0.0.1 c.in_default.in_default-own.rest.0.1 c.in_default.in_default-own.rest.1)) (record { ran = still (raw _) refl refl; frame = idle _ _ })
 
 pub gen_stmts-loop-p-init : goal.gen_stmts-loop-p-init
@@ -363,7 +363,7 @@ pub gen_while-shape_of-scope : goal.gen_while-shape_of-scope
 gen_while-shape_of-scope t c = c.gen_stmts-b.auto.1.1.0
 
 pub gen_while-returns : goal.gen_while-returns
-unfolding steps.gen-stmt stmt_as vars
+unfolding steps.gen_stmt_lem stmt_as vars
 gen_while-returns t c = record {
   ran = rw c.emit-w.ensures.next (circled (raw _) _ _ _ (rw c.body-cond.ensures.0 at c.gen_expr-v.ensures) (c.emit-j.ensures.ran _ _ true) c.open_slot-a.ensures.reserved
       (rw (c.body-p.ensures.0, c.past-q.ensures.0, c.past-list.ensures.0, c.body-cond.ensures.0, c.open_slot-a.ensures.next) at c.gen_stmts-b.ensures.ran)

@@ -6,7 +6,7 @@ use Prim.Native.Nat.{◌-◌}
 use native.Mathlib.Omega.{arith}
 use borrow.Author.Rules.{rules}
 use Rattle.rules.specs.Read.{stmt_as, expr_at}
-use Rattle.emit.specs.Steps.{gen-stmt}
+use Rattle.emit.specs.Steps.{gen_stmt_lem}
 use Rattle.emit.specs.Ran.{raw}
 use Rattle.emit.specs.Refines.{seq}
 use Rattle.expr.specs.Scope.{scope_in}
@@ -34,7 +34,7 @@ pub shape_of-bytes : goal.shape_of-bytes
 shape_of-bytes c = c.loop-p.invariant.room.1
 
 pub returns : goal.returns
-unfolding gen-stmt stmt_as
+unfolding gen_stmt_lem stmt_as
 returns c = record {
   ran = seq (raw _) _ (rw (c.body-p.ensures.0, c.past-end.ensures.0, c.past-list.ensures.0, c.body.ensures.0) at (logs_end _ _ _ _ _ _ _ _ _ c.loop-p.invariant c.loop-p-test.false)) (ends (raw _) c.loop-p.s c.with.ensures);
   frame = idle _ _;

@@ -6,7 +6,7 @@ use Prim.Native.Nat.{◌-◌}
 use native.Mathlib.Omega.{arith}
 use borrow.Author.Rules.{rules}
 use Rattle.rules.specs.Read.{stmt_as, expr_at}
-use Rattle.emit.specs.Steps.{gen-stmt}
+use Rattle.emit.specs.Steps.{gen_stmt_lem}
 use Rattle.emit.specs.Ran.{raw}
 use Rattle.emit.specs.Refines.{seq}
 use Rattle.expr.specs.Scope.{scope_in}

@@ -1,7 +1,7 @@
 -- gen_mapping_write does the steps of its statement.
 use borrow.Author.Rules.{rules}
 use Rattle.rules.specs.Read.{stmt_as}
-use Rattle.emit.specs.Steps.{gen-stmt}
+use Rattle.emit.specs.Steps.{gen_stmt_lem}
 use Rattle.emit.specs.Ran.{raw}
 use Rattle.emit.specs.Refines.{seq}
 use Rattle.stmt.specs.Runs.{store_at}
@@ -13,7 +13,7 @@ pub gen_expr-v-requires : goal.gen_expr-v-requires
 gen_expr-v-requires c = c.requires.known
 
 pub returns : goal.returns
-unfolding gen-stmt stmt_as store_at
+unfolding gen_stmt_lem stmt_as store_at
 returns c = rw (← c.body-name.ensures.0, ← c.past-key.ensures.0, ← c.past-value.ensures.0, c.with.ensures) (record {
   ran = seq (raw _) _ (c.storage_slot-k.ensures.ran _ _ _ (of_45 _ _).0 (of_45 _ _).1.0 (of_45 _ _).1.1)
       (seq (raw _) _ (rw c.storage_slot-k.ensures.next at c.gen_expr-a.ensures)

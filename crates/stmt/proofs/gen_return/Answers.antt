@@ -3,7 +3,7 @@ use mathlib.Core.Path.{◌∙◌}
 use mathlib.Core.Bool.{false}
 use borrow.Author.Rules.{rules}
 use Rattle.rules.specs.Read.{expr_at, stmt_at_lem}
-use Rattle.emit.specs.Steps.{gen-stmt}
+use Rattle.emit.specs.Steps.{gen_stmt_lem}
 use Rattle.emit.specs.Ran.{raw}
 use Rattle.emit.specs.Refines.{seq, renewed, says}
 use Rattle.stmt.proofs.Laws.{ends, takes}
@@ -21,7 +21,7 @@ pub shape_of-bytes-then-value-end : goal.shape_of-bytes-then-value-end
 shape_of-bytes-then-value-end c = c.leave-l.auto.1.0 ∙ c.gen_expr-v.auto.1.0 ∙ c.emit_new-t.auto.1.0
 
 pub returns-then-value-end : goal.returns-then-value-end
-unfolding gen-stmt
+unfolding gen_stmt_lem
 returns-then-value-end c = rw (value_some (expr_at c.args.d c.args.img.now) (stmt_at_lem c.args.d c.args.img.now) c.args.img.now c.args.at (rw (c.body-value.ensures.0, c.past-end.ensures.0) at c.if-value-end.true)) (record {
   ran = renewed (raw _) _ _ _ (c.emit_new-t.ensures.ran _)
       (seq (raw _) _ (rw (c.body-value.ensures.0, c.emit_new-t.ensures.next) at c.gen_expr-v.ensures)
@@ -36,7 +36,7 @@ pub shape_of-bytes : goal.shape_of-bytes
 shape_of-bytes c = c.leave-l-2.auto.1.0 ∙ c.emit-w.auto.1.0 ∙ c.emit_new-t.auto.1.0
 
 pub returns : goal.returns
-unfolding gen-stmt
+unfolding gen_stmt_lem
 returns c = rw (value_none (expr_at c.args.d c.args.img.now) (stmt_at_lem c.args.d c.args.img.now) c.args.img.now c.args.at (rw (c.body-value.ensures.0, c.past-end.ensures.0) at c.if-value-end.false)) (record {
   ran = renewed (raw _) _ _ _ (c.emit_new-t.ensures.ran _)
       (seq (raw _) _ (takes _ c.alloc_reg-z.ensures c.emit_new-t.ensures.next _ _)

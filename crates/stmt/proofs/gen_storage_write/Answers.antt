@@ -2,7 +2,7 @@
 use mathlib.Core.Bool.{false}
 use borrow.Author.Rules.{rules}
 use Rattle.rules.specs.Read.{stmt_as}
-use Rattle.emit.specs.Steps.{gen-stmt}
+use Rattle.emit.specs.Steps.{gen_stmt_lem}
 use Rattle.emit.specs.Ran.{raw}
 use Rattle.emit.specs.Refines.{seq}
 use Rattle.stmt.proofs.Laws.{ends, of_44}
@@ -10,7 +10,7 @@ use Rattle.stmt.proofs.Names.{idle}
 use Rattle.stmt.proofs.gen_storage_write.Goals as goal
 
 pub returns : goal.returns
-unfolding gen-stmt stmt_as
+unfolding gen_stmt_lem stmt_as
 returns c = rw (← c.body-name.ensures.0, ← c.past-value.ensures.0) (record {
   ran = seq (raw _) _ c.gen_expr-v.ensures
       (seq (raw _) _ (c.storage_slot-k.ensures.ran _ _ _ (of_44 _ _).0 (of_44 _ _).1.0 (of_44 _ _).1.1)

@@ -2,7 +2,7 @@
 use mathlib.Core.Path.{◌≡◌, refl, ◌∙◌}
 use Rattle.emit.specs.declared.St.{St}
 use Rattle.trace.specs.Moves.{entering}
-use Rattle.trace.specs.Lists.{Down, down_begin, down-settled, down-go, down_end}
+use Rattle.trace.specs.Lists.{Down, down_begin, down_settled, down_go, down_end}
 use borrow.Author.Rules.{rules}
 use Rattle.trace.proofs.find_stmt.Goals as goal
 
@@ -19,10 +19,10 @@ pub shape_of-scope-then-t-ne-BLOCK : goal.shape_of-scope-then-t-ne-BLOCK
 shape_of-scope-then-t-ne-BLOCK c = c.step_list-t.auto.0 ∙ (c.loop-d.invariant c.args.st c.block-t.ensures).long
 
 pub returns-then-t-ne-BLOCK : goal.returns-then-t-ne-BLOCK
-returns-then-t-ne-BLOCK c = down-settled (c.loop-d.invariant c.args.st c.block-t.ensures) c.step_list-t.ensures refl (c.settle.ensures c.if-t-ne-BLOCK.true)
+returns-then-t-ne-BLOCK c = down_settled (c.loop-d.invariant c.args.st c.block-t.ensures) c.step_list-t.ensures refl (c.settle.ensures c.if-t-ne-BLOCK.true)
 
 pub loop-d-preserved : goal.loop-d-preserved
-loop-d-preserved c = λ st e. down-go (c.loop-d.invariant st e) c.step_list-t.ensures refl c.if-t-ne-BLOCK.false c.step_list-t.auto.0
+loop-d-preserved c = λ st e. down_go (c.loop-d.invariant st e) c.step_list-t.ensures refl c.if-t-ne-BLOCK.false c.step_list-t.auto.0
 
 pub settle-requires-2 : goal.settle-requires-2
 settle-requires-2 c = c.requires.known

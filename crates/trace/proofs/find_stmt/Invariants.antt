@@ -2,7 +2,7 @@
 use mathlib.Core.Path.{◌≡◌, refl, ◌∙◌}
 use Rattle.emit.specs.declared.St.{St}
 use Rattle.trace.specs.Moves.{entering}
-use Rattle.trace.specs.Lists.{Down, down_begin, down-settled, down-go, down_end}
+use Rattle.trace.specs.Lists.{Down, down_begin, down_settled, down_go, down_end}
 use borrow.Author.Rules.{rules}
 use Rattle.trace.proofs.find_stmt.Given as goal
 

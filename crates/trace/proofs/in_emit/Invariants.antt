@@ -3,7 +3,7 @@ use Prim.Native.Nat.{◌-◌}
 use native.Mathlib.Omega.{arith}
 use borrow.Author.Rules.{rules}
 use Rattle.stmt.proofs.Lists.{goes_on}
-use Rattle.trace.specs.Lists.{Logs, logs_begin, logs_go, logs-in, logs-own, logs_end}
+use Rattle.trace.specs.Lists.{Logs, logs_begin, logs_go, logs_in, logs_own, logs_end}
 use Rattle.trace.proofs.in_emit.Given as goal
 
 abbrev pub invariant-loop-p : goal.invariant-loop-p

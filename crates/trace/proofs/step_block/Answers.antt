@@ -5,7 +5,7 @@ use native.Mathlib.Omega.{arith}
 use lib.ListN.{length-set}
 use borrow.Author.Rules.{rules}
 use Rattle.stmt.proofs.Lists.{goes_on}
-use Rattle.trace.specs.Lists.{Rest, rest_begin, rest_ready, rest_go, rest_in, rest-last, rest_end}
+use Rattle.trace.specs.Lists.{Rest, rest_begin, rest_ready, rest_go, rest_in, rest_last, rest_end}
 use Rattle.trace.proofs.step_block.Goals as goal
 
 pub loop-p-init : goal.loop-p-init
@@ -15,7 +15,7 @@ pub shape_of-scope-then-e-q : goal.shape_of-scope-then-e-q
 shape_of-scope-then-e-q c = c.loop-p.invariant.long
 
 pub returns-then-e-q : goal.returns-then-e-q
-returns-then-e-q c = rest-last c.loop-p.invariant c.requires.known.0.small c.past-e.ensures.1 c.loop-p-test.true c.body-p.ensures.0 c.past-e.ensures.0 c.past-q.ensures.0 c.if-e-q.true c.stmt_at.ensures
+returns-then-e-q c = rest_last c.loop-p.invariant c.requires.known.0.small c.past-e.ensures.1 c.loop-p-test.true c.body-p.ensures.0 c.past-e.ensures.0 c.past-q.ensures.0 c.if-e-q.true c.stmt_at.ensures
 
 pub bounds-scope-0 : goal.bounds-scope-0
 bounds-scope-0 c = omega (arith, c.loop-p.invariant.ready.size)

@@ -5,7 +5,7 @@ use native.Mathlib.Omega.{arith}
 use lib.ListN.{length-set}
 use borrow.Author.Rules.{rules}
 use Rattle.stmt.proofs.Lists.{goes_on}
-use Rattle.trace.specs.Lists.{Rest, rest_begin, rest_ready, rest_go, rest_in, rest-last, rest_end}
+use Rattle.trace.specs.Lists.{Rest, rest_begin, rest_ready, rest_go, rest_in, rest_last, rest_end}
 use Rattle.trace.proofs.step_block.Given as goal
 
 abbrev pub invariant-loop-p : goal.invariant-loop-p

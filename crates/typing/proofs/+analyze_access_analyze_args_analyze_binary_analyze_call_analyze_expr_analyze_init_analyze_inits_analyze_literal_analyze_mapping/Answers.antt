@@ -15,9 +15,9 @@ use Rattle.lookup.specs.Answers.{due_of, env_of, misfit_of, typed_of}
 use Rattle.rules.specs.Bytes.{after, inside}
 use Rattle.rules.specs.Read.{contract_at, expr_at, exprs_from}
 use Rattle.rules.specs.Refusal.{◌>>=◌}
-use Rattle.typing.proofs.Lists.{args-done, args-next, args-refused, args_start, drop_more, nth_drop}
+use Rattle.typing.proofs.Lists.{args_done, args_next, args_refused, args_start, drop_more, nth_drop}
 use Rattle.typing.proofs.Wrote.{args_all, args_first, args_written}
-use Rattle.rules.specs.Meant.{ofExprs}
+use Rattle.rules.specs.Meant.{of_exprs}
 use Rattle.notes.specs.Notes.{written}
 use Rattle.notes.specs.Wrote.{refused, was, wrote}
 use Rattle.typing.proofs.Trees.{exprs_end, exprs_zero}
@@ -25,7 +25,7 @@ use Rattle.typing.specs.Arguments.{args_of, behind, exprs_in, sum_args}
 use lib.ListN.{drop}
 use mathlib.Core.Path.{◌∙◌, ◌≡◌, ap, refl, sym}
 use Rattle.lookup.specs.Answers.{typed_of}
-use Rattle.rules.specs.Meant.{ofExpr}
+use Rattle.rules.specs.Meant.{of_expr}
 use Rattle.notes.specs.Wrote.{in_turn, refused, was, wrote}
 use Rattle.typing.proofs.Lists.{call_done}
 use Rattle.typing.specs.Arguments.{args_of}
@@ -41,9 +41,9 @@ use Rattle.typing.specs.Arguments.{one_init}
 use Rattle.lookup.specs.Answers.{checked_of, env_of}
 use Rattle.rules.specs.Analyse.{inits}
 use Rattle.rules.specs.Read.{contract_at, expr_at, inits_from, struct_at}
-use Rattle.typing.proofs.Lists.{inits-bad, inits-next}
+use Rattle.typing.proofs.Lists.{inits_bad, inits_next}
 use Rattle.typing.proofs.Wrote.{inits_all, inits_written}
-use Rattle.rules.specs.Meant.{ofInits}
+use Rattle.rules.specs.Meant.{of_inits}
 use Rattle.typing.proofs.Trees.{inits_end, inits_zero}
 use Rattle.typing.specs.Arguments.{inits_in}
 use Rattle.lookup.specs.Answers.{checked_of, fault_of, ty_of, typed_of}
@@ -242,7 +242,7 @@ analyze_args-loop-i-init t c = (rw (c.body-p.ensures.0, c.past-end.ensures.0) (a
 
 pub analyze_args-returns-then-end-p : goal.analyze_args-returns-then-end-p
 unfolding args_of
-analyze_args-returns-then-end-p t c = (args-done (contract_at c.args.img.now) c.args.d c.args.img.now (env_of c.args.img.now c.args.env.now c.args.top) (due_of c.args.img.now c.args.params) c.loop-i.i (misfit_of c.loop-i.m) _ (exprs_end (expr_at c.args.d c.args.img.now) c.args.img.now (c.args.left - c.loop-i.i) c.loop-i.p c.past-end.result c.if-end-p.true) ∙ sym c.loop-i.invariant.1.1.1, wrote (contract_at c.args.img.now) _ (sym (c.loop-i.invariant.0 ∙ args_all (contract_at c.args.img.now) _ (env_of c.args.img.now c.args.env.now c.args.top) _ (exprs_end (expr_at c.args.d c.args.img.now) c.args.img.now (c.args.left - c.loop-i.i) c.loop-i.p c.past-end.result c.if-end-p.true))))
+analyze_args-returns-then-end-p t c = (args_done (contract_at c.args.img.now) c.args.d c.args.img.now (env_of c.args.img.now c.args.env.now c.args.top) (due_of c.args.img.now c.args.params) c.loop-i.i (misfit_of c.loop-i.m) _ (exprs_end (expr_at c.args.d c.args.img.now) c.args.img.now (c.args.left - c.loop-i.i) c.loop-i.p c.past-end.result c.if-end-p.true) ∙ sym c.loop-i.invariant.1.1.1, wrote (contract_at c.args.img.now) _ (sym (c.loop-i.invariant.0 ∙ args_all (contract_at c.args.img.now) _ (env_of c.args.img.now c.args.env.now c.args.top) _ (exprs_end (expr_at c.args.d c.args.img.now) c.args.img.now (c.args.left - c.loop-i.i) c.loop-i.p c.past-end.result c.if-end-p.true))))
 
 pub analyze_args-analyze_expr-t-requires : goal.analyze_args-analyze_expr-t-requires
 analyze_args-analyze_expr-t-requires t c = (omega arith, c.requires.1)
@@ -255,15 +255,15 @@ analyze_args-loop-i-smaller t c = omega arith
 
 pub analyze_args-loop-i-preserved : goal.analyze_args-loop-i-preserved
 unfolding typed_of
-analyze_args-loop-i-preserved t c = (c.loop-i.invariant.0 ∙ rw c.past-p.ensures.0 (args_written (contract_at c.args.img.now) c.args.d c.args.img.now (env_of c.args.img.now c.args.env.now c.args.top) _ c.args.left c.loop-i.i c.loop-i.p c.past-end.result c.loop-i-test.true c.if-end-p.false (was (contract_at c.args.img.now) _ c.analyze_expr-t.ensures.1 (ap (typed_of c.args.img.now) c.in-Is.is))), (omega arith, (c.next_due-due.ensures ∙ ap (drop 1) c.loop-i.invariant.1.1.0 ∙ drop_more c.loop-i.i (due_of c.args.img.now c.args.params), c.loop-i.invariant.1.1.1 ∙ rw c.past-p.ensures.0 (args-next (contract_at c.args.img.now) c.args.d c.args.img.now (env_of c.args.img.now c.args.env.now c.args.top) (due_of c.args.img.now c.args.params) c.loop-i.i (misfit_of c.loop-i.m) c.args.left c.loop-i.p c.past-end.result _ c.loop-i-test.true c.if-end-p.false (sym (ap (typed_of c.args.img.now) c.in-Is.is) ∙ c.analyze_expr-t.ensures.0) (rw (c.loop-i.invariant.1.1.0, nth_drop c.loop-i.i (due_of c.args.img.now c.args.params)) at c.note-m.ensures)))))
+analyze_args-loop-i-preserved t c = (c.loop-i.invariant.0 ∙ rw c.past-p.ensures.0 (args_written (contract_at c.args.img.now) c.args.d c.args.img.now (env_of c.args.img.now c.args.env.now c.args.top) _ c.args.left c.loop-i.i c.loop-i.p c.past-end.result c.loop-i-test.true c.if-end-p.false (was (contract_at c.args.img.now) _ c.analyze_expr-t.ensures.1 (ap (typed_of c.args.img.now) c.in-Is.is))), (omega arith, (c.next_due-due.ensures ∙ ap (drop 1) c.loop-i.invariant.1.1.0 ∙ drop_more c.loop-i.i (due_of c.args.img.now c.args.params), c.loop-i.invariant.1.1.1 ∙ rw c.past-p.ensures.0 (args_next (contract_at c.args.img.now) c.args.d c.args.img.now (env_of c.args.img.now c.args.env.now c.args.top) (due_of c.args.img.now c.args.params) c.loop-i.i (misfit_of c.loop-i.m) c.args.left c.loop-i.p c.past-end.result _ c.loop-i-test.true c.if-end-p.false (sym (ap (typed_of c.args.img.now) c.in-Is.is) ∙ c.analyze_expr-t.ensures.0) (rw (c.loop-i.invariant.1.1.0, nth_drop c.loop-i.i (due_of c.args.img.now c.args.params)) at c.note-m.ensures)))))
 
 pub analyze_args-returns-in-Refused : goal.analyze_args-returns-in-Refused
 unfolding args_of typed_of
-analyze_args-returns-in-Refused t c = (args-refused (contract_at c.args.img.now) c.args.d c.args.img.now (env_of c.args.img.now c.args.env.now c.args.top) (due_of c.args.img.now c.args.params) c.loop-i.i (misfit_of c.loop-i.m) c.args.left c.loop-i.p c.past-end.result c.loop-i-test.true c.if-end-p.false (sym (ap (typed_of c.args.img.now) c.in-Refused.is) ∙ c.analyze_expr-t.ensures.0) ∙ sym c.loop-i.invariant.1.1.1, refused (contract_at c.args.img.now) _ _ refl)
+analyze_args-returns-in-Refused t c = (args_refused (contract_at c.args.img.now) c.args.d c.args.img.now (env_of c.args.img.now c.args.env.now c.args.top) (due_of c.args.img.now c.args.params) c.loop-i.i (misfit_of c.loop-i.m) c.args.left c.loop-i.p c.past-end.result c.loop-i-test.true c.if-end-p.false (sym (ap (typed_of c.args.img.now) c.in-Refused.is) ∙ c.analyze_expr-t.ensures.0) ∙ sym c.loop-i.invariant.1.1.1, refused (contract_at c.args.img.now) _ _ refl)
 
 pub analyze_args-returns : goal.analyze_args-returns
 unfolding args_of
-analyze_args-returns t c = (args-done (contract_at c.args.img.now) c.args.d c.args.img.now (env_of c.args.img.now c.args.env.now c.args.top) (due_of c.args.img.now c.args.params) c.loop-i.i (misfit_of c.loop-i.m) _ (exprs_zero (expr_at c.args.d c.args.img.now) c.args.img.now (c.args.left - c.loop-i.i) c.loop-i.p c.past-end.result (omega (arith, c.loop-i-test.false))) ∙ sym c.loop-i.invariant.1.1.1, wrote (contract_at c.args.img.now) _ (sym (c.loop-i.invariant.0 ∙ args_all (contract_at c.args.img.now) _ (env_of c.args.img.now c.args.env.now c.args.top) _ (exprs_zero (expr_at c.args.d c.args.img.now) c.args.img.now (c.args.left - c.loop-i.i) c.loop-i.p c.past-end.result (omega (arith, c.loop-i-test.false))))))
+analyze_args-returns t c = (args_done (contract_at c.args.img.now) c.args.d c.args.img.now (env_of c.args.img.now c.args.env.now c.args.top) (due_of c.args.img.now c.args.params) c.loop-i.i (misfit_of c.loop-i.m) _ (exprs_zero (expr_at c.args.d c.args.img.now) c.args.img.now (c.args.left - c.loop-i.i) c.loop-i.p c.past-end.result (omega (arith, c.loop-i-test.false))) ∙ sym c.loop-i.invariant.1.1.1, wrote (contract_at c.args.img.now) _ (sym (c.loop-i.invariant.0 ∙ args_all (contract_at c.args.img.now) _ (env_of c.args.img.now c.args.env.now c.args.top) _ (exprs_zero (expr_at c.args.d c.args.img.now) c.args.img.now (c.args.left - c.loop-i.i) c.loop-i.p c.past-end.result (omega (arith, c.loop-i-test.false))))))
 
 pub analyze_binary-analyze_expr-a-requires : goal.analyze_binary-analyze_expr-a-requires
 analyze_binary-analyze_expr-a-requires t c = (omega arith, c.requires.1)
@@ -272,7 +272,7 @@ pub analyze_binary-analyze_expr-b-requires : goal.analyze_binary-analyze_expr-b-
 analyze_binary-analyze_expr-b-requires t c = (omega arith, c.requires.1)
 
 pub analyze_binary-returns-in-Is-b : goal.analyze_binary-returns-in-Is-b
-unfolding typed_of expr expr_as ofExpr
+unfolding typed_of expr expr_as of_expr
 analyze_binary-returns-in-Is-b t c = (then_ok _ (sym (ap (typed_of c.args.img.now) c.in-Is.is) ∙ rw c.body-left.ensures.0 at c.analyze_expr-a.ensures.0) (then_ok _ (sym (ap (typed_of c.args.img.now) c.in-Is-b.is) ∙ rw (c.past-right.ensures.0, c.past-op.ensures.0, c.body-left.ensures.0) at c.analyze_expr-b.ensures.0) c.both.ensures), wrote (contract_at c.args.img.now) _ (in_turn (contract_at c.args.img.now) _ _ _ (rw c.body-left.ensures.0 at (was (contract_at c.args.img.now) _ c.analyze_expr-a.ensures.1 (ap (typed_of c.args.img.now) c.in-Is.is))) (rw (c.past-right.ensures.0, c.past-op.ensures.0, c.body-left.ensures.0) at (was (contract_at c.args.img.now) _ c.analyze_expr-b.ensures.1 (ap (typed_of c.args.img.now) c.in-Is-b.is)))))
 
 pub analyze_binary-returns-in-Refused-b : goal.analyze_binary-returns-in-Refused-b
@@ -290,7 +290,7 @@ pub analyze_call-analyze_args-v-requires : goal.analyze_call-analyze_args-v-requ
 analyze_call-analyze_args-v-requires t c = (omega arith, c.requires.1)
 
 pub analyze_call-returns-in-Done : goal.analyze_call-returns-in-Done
-unfolding expr expr_as args_of ofExpr
+unfolding expr expr_as args_of of_expr
 analyze_call-returns-in-Done t c = (call_done _ _ _ _ (then_ok _ (sym (ap (args_of c.args.img.now) c.in-Done.is) ∙ rw (c.dues-params.ensures, c.callee_named-c.ensures, c.past-list.ensures.0, c.body-x.ensures.0) at c.analyze_args-v.ensures.0) (rw (c.callee_named-c.ensures, c.body-x.ensures.0) at c.apply_to.ensures)), wrote (contract_at c.args.img.now) _ (rw (c.past-list.ensures.0, c.body-x.ensures.0) at (was (contract_at c.args.img.now) _ c.analyze_args-v.ensures.1 (ap (args_of c.args.img.now) c.in-Done.is))))
 
 pub analyze_call-returns-in-Refused : goal.analyze_call-returns-in-Refused
@@ -298,7 +298,7 @@ unfolding expr expr_as args_of typed_of
 analyze_call-returns-in-Refused t c = (call_done _ _ _ _ (then_bad _ (sym (ap (args_of c.args.img.now) c.in-Refused.is) ∙ rw (c.dues-params.ensures, c.callee_named-c.ensures, c.past-list.ensures.0, c.body-x.ensures.0) at c.analyze_args-v.ensures.0)), refused (contract_at c.args.img.now) _ _ refl)
 
 pub analyze_expr-returns-then-d-eq0 : goal.analyze_expr-returns-then-d-eq0
-unfolding typed_of ty_of expr ofExpr
+unfolding typed_of ty_of expr of_expr
 analyze_expr-returns-then-d-eq0 t c = rw (at_zero c.args.d c.args.img.now c.args.at c.if-d-eq0.true) (refl, none_written (contract_at c.args.img.now) _ _)
 
 pub analyze_expr-analyze_mapping-requires : goal.analyze_expr-analyze_mapping-requires
@@ -317,15 +317,15 @@ pub analyze_expr-analyze_call-requires : goal.analyze_expr-analyze_call-requires
 analyze_expr-analyze_call-requires t c = (omega arith, c.requires.1)
 
 pub analyze_expr-returns-in-64 : goal.analyze_expr-returns-in-64
-unfolding typed_of ty_of expr expr_as kind_of pick ofExpr
+unfolding typed_of ty_of expr expr_as kind_of pick of_expr
 analyze_expr-returns-in-64 t c = rw (at_kind c.args.d c.args.img.now c.args.at c.kind-k.result kInt c.if-d-eq0.false c.kind-k.ensures.0 (ap kind_of c.in-64.is)) (refl, none_written (contract_at c.args.img.now) _ _)
 
 pub analyze_expr-returns-in-65 : goal.analyze_expr-returns-in-65
-unfolding expr_as kind_of pick ofExpr
+unfolding expr_as kind_of pick of_expr
 analyze_expr-returns-in-65 t c = rw (at_kind c.args.d c.args.img.now c.args.at c.kind-k.result kIdent c.if-d-eq0.false c.kind-k.ensures.0 (ap kind_of c.in-65.is)) (c.analyze_ident.ensures, none_written (contract_at c.args.img.now) _ _)
 
 pub analyze_expr-returns-in-66 : goal.analyze_expr-returns-in-66
-unfolding typed_of ty_of expr expr_as kind_of pick ofExpr
+unfolding typed_of ty_of expr expr_as kind_of pick of_expr
 analyze_expr-returns-in-66 t c = rw (at_kind c.args.d c.args.img.now c.args.at c.kind-k.result kStorage c.if-d-eq0.false c.kind-k.ensures.0 (ap kind_of c.in-66.is)) (refl, none_written (contract_at c.args.img.now) _ _)
 
 pub analyze_expr-returns-in-67 : goal.analyze_expr-returns-in-67
@@ -349,7 +349,7 @@ unfolding kind_of pick
 analyze_expr-returns-in-71 t c = rw (at_kind c.args.d c.args.img.now c.args.at c.kind-k.result kCall c.if-d-eq0.false c.kind-k.ensures.0 (ap kind_of c.in-71.is)) c.analyze_call.ensures
 
 pub analyze_expr-returns-in_default : goal.analyze_expr-returns-in_default
-unfolding typed_of ty_of expr expr_as ofExpr
+unfolding typed_of ty_of expr expr_as of_expr
 analyze_expr-returns-in_default t c = rw (at_kind c.args.d c.args.img.now c.args.at c.kind-k.result kOther c.if-d-eq0.false c.kind-k.ensures.0 (kind_other c.kind-k.result c.in_default.in_default-own.rest.0.0.0.0.0.0.0.1 c.in_default.in_default-own.rest.0.0.0.0.0.0.1 c.in_default.in_default-own.rest.0.0.0.0.0.1 c.in_default.in_default-own.rest.0.0.0.0.1 c.in_default.in_default-own.rest.0.0.0.1 c.in_default.in_default-own.rest.0.0.1 c.in_default.in_default-own.rest.0.1 c.in_default.in_default-own.rest.1)) (refl, none_written (contract_at c.args.img.now) _ _)
 
 pub analyze_init-analyze_expr-t-requires : goal.analyze_init-analyze_expr-t-requires
@@ -378,11 +378,11 @@ analyze_inits-loop-k-smaller t c = omega arith
 
 pub analyze_inits-loop-k-preserved : goal.analyze_inits-loop-k-preserved
 unfolding checked_of
-analyze_inits-loop-k-preserved t c = (c.loop-k.invariant.0 ∙ rw c.past-p.ensures.0 (inits_written (contract_at c.args.img.now) c.args.d c.args.img.now (env_of c.args.img.now c.args.env.now c.args.top) _ c.loop-k.k c.loop-k.p c.past-end.result c.loop-k-test.true c.if-end-p.false (was (contract_at c.args.img.now) _ c.analyze_init-fit.ensures.1 (ap (checked_of c.args.img.now) c.in-Fine.is))), c.loop-k.invariant.1 ∙ rw c.past-p.ensures.0 (inits-next (contract_at c.args.img.now) c.args.d c.args.img.now (env_of c.args.img.now c.args.env.now c.args.top) (struct_at c.args.img.now c.args.s) c.loop-k.k c.loop-k.p c.past-end.result c.loop-k-test.true c.if-end-p.false (sym (ap (checked_of c.args.img.now) c.in-Fine.is) ∙ c.analyze_init-fit.ensures.0)))
+analyze_inits-loop-k-preserved t c = (c.loop-k.invariant.0 ∙ rw c.past-p.ensures.0 (inits_written (contract_at c.args.img.now) c.args.d c.args.img.now (env_of c.args.img.now c.args.env.now c.args.top) _ c.loop-k.k c.loop-k.p c.past-end.result c.loop-k-test.true c.if-end-p.false (was (contract_at c.args.img.now) _ c.analyze_init-fit.ensures.1 (ap (checked_of c.args.img.now) c.in-Fine.is))), c.loop-k.invariant.1 ∙ rw c.past-p.ensures.0 (inits_next (contract_at c.args.img.now) c.args.d c.args.img.now (env_of c.args.img.now c.args.env.now c.args.top) (struct_at c.args.img.now c.args.s) c.loop-k.k c.loop-k.p c.past-end.result c.loop-k-test.true c.if-end-p.false (sym (ap (checked_of c.args.img.now) c.in-Fine.is) ∙ c.analyze_init-fit.ensures.0)))
 
 pub analyze_inits-returns-in-Refused : goal.analyze_inits-returns-in-Refused
 unfolding checked_of
-analyze_inits-returns-in-Refused t c = rw c.in-Refused.is ((inits-bad (contract_at c.args.img.now) c.args.d c.args.img.now (env_of c.args.img.now c.args.env.now c.args.top) (struct_at c.args.img.now c.args.s) c.loop-k.k c.loop-k.p c.past-end.result c.loop-k-test.true c.if-end-p.false (sym (ap (checked_of c.args.img.now) c.in-Refused.is) ∙ c.analyze_init-fit.ensures.0) ∙ sym c.loop-k.invariant.1), refused (contract_at c.args.img.now) _ _ refl)
+analyze_inits-returns-in-Refused t c = rw c.in-Refused.is ((inits_bad (contract_at c.args.img.now) c.args.d c.args.img.now (env_of c.args.img.now c.args.env.now c.args.top) (struct_at c.args.img.now c.args.s) c.loop-k.k c.loop-k.p c.past-end.result c.loop-k-test.true c.if-end-p.false (sym (ap (checked_of c.args.img.now) c.in-Refused.is) ∙ c.analyze_init-fit.ensures.0) ∙ sym c.loop-k.invariant.1), refused (contract_at c.args.img.now) _ _ refl)
 
 pub analyze_inits-returns : goal.analyze_inits-returns
 unfolding checked_of inits
@@ -395,7 +395,7 @@ pub analyze_literal-analyze_inits-k-requires : goal.analyze_literal-analyze_init
 analyze_literal-analyze_inits-k-requires t c = (omega arith, c.requires.1)
 
 pub analyze_literal-returns-in-Fine : goal.analyze_literal-returns-in-Fine
-unfolding typed_of ty_of expr expr_as place_of mapped struct_named checked_of ofExpr
+unfolding typed_of ty_of expr expr_as place_of mapped struct_named checked_of of_expr
 analyze_literal-returns-in-Fine t c = (then_ok _ (known_some _ (sym (ap (λ (o : Found). mapped (struct_at c.args.img.now) (place_of o)) c.in-At.is) ∙ rw c.body-x.ensures.0 at (struct_is c.args.img.now c.body-x.result _ c.struct_named-s.ensures))) (then_ok _ (sym (ap (checked_of c.args.img.now) c.in-Fine.is) ∙ rw (c.past-list.ensures.0, c.body-x.ensures.0) at c.analyze_inits-k.ensures.0) (ap (λ (n : ℕ). ok (Typ.struct (name_at c.args.img.now n))) c.body-x.ensures.0)), wrote (contract_at c.args.img.now) _ (rw (c.past-list.ensures.0, c.body-x.ensures.0) at (was (contract_at c.args.img.now) _ c.analyze_inits-k.ensures.1 (ap (checked_of c.args.img.now) c.in-Fine.is))))
 
 pub analyze_literal-returns-in-Refused : goal.analyze_literal-returns-in-Refused
@@ -410,7 +410,7 @@ pub analyze_mapping-analyze_expr-t-requires : goal.analyze_mapping-analyze_expr-
 analyze_mapping-analyze_expr-t-requires t c = (omega arith, c.requires.1)
 
 pub analyze_mapping-returns-in-Is : goal.analyze_mapping-returns-in-Is
-unfolding typed_of expr expr_as ty_of ofExpr
+unfolding typed_of expr expr_as ty_of of_expr
 analyze_mapping-returns-in-Is t c = (then_ok _ (sym (ap (typed_of c.args.img.now) c.in-Is.is) ∙ rw (c.past-key.ensures.0, c.body.ensures.0) at c.analyze_expr-t.ensures.0) refl, wrote (contract_at c.args.img.now) _ (rw (c.past-key.ensures.0, c.body.ensures.0) at (was (contract_at c.args.img.now) _ c.analyze_expr-t.ensures.1 (ap (typed_of c.args.img.now) c.in-Is.is))))
 
 pub analyze_mapping-returns-in-Refused : goal.analyze_mapping-returns-in-Refused

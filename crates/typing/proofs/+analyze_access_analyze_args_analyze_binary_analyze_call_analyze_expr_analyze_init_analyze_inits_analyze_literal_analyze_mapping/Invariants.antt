@@ -15,9 +15,9 @@ use Rattle.lookup.specs.Answers.{due_of, env_of, misfit_of, typed_of}
 use Rattle.rules.specs.Bytes.{after, inside}
 use Rattle.rules.specs.Read.{contract_at, expr_at, exprs_from}
 use Rattle.rules.specs.Refusal.{◌>>=◌}
-use Rattle.typing.proofs.Lists.{args-done, args-next, args-refused, args_start, drop_more, nth_drop}
+use Rattle.typing.proofs.Lists.{args_done, args_next, args_refused, args_start, drop_more, nth_drop}
 use Rattle.typing.proofs.Wrote.{args_all, args_first, args_written}
-use Rattle.rules.specs.Meant.{ofExprs}
+use Rattle.rules.specs.Meant.{of_exprs}
 use Rattle.notes.specs.Notes.{written}
 use Rattle.notes.specs.Wrote.{refused, was, wrote}
 use Rattle.typing.proofs.Trees.{exprs_end, exprs_zero}
@@ -25,7 +25,7 @@ use Rattle.typing.specs.Arguments.{args_of, behind, exprs_in, sum_args}
 use lib.ListN.{drop}
 use mathlib.Core.Path.{◌∙◌, ◌≡◌, ap, refl, sym}
 use Rattle.lookup.specs.Answers.{typed_of}
-use Rattle.rules.specs.Meant.{ofExpr}
+use Rattle.rules.specs.Meant.{of_expr}
 use Rattle.notes.specs.Wrote.{in_turn, refused, was, wrote}
 use Rattle.typing.proofs.Lists.{call_done}
 use Rattle.typing.specs.Arguments.{args_of}
@@ -41,9 +41,9 @@ use Rattle.typing.specs.Arguments.{one_init}
 use Rattle.lookup.specs.Answers.{checked_of, env_of}
 use Rattle.rules.specs.Analyse.{inits}
 use Rattle.rules.specs.Read.{contract_at, expr_at, inits_from, struct_at}
-use Rattle.typing.proofs.Lists.{inits-bad, inits-next}
+use Rattle.typing.proofs.Lists.{inits_bad, inits_next}
 use Rattle.typing.proofs.Wrote.{inits_all, inits_written}
-use Rattle.rules.specs.Meant.{ofInits}
+use Rattle.rules.specs.Meant.{of_inits}
 use Rattle.typing.proofs.Trees.{inits_end, inits_zero}
 use Rattle.typing.specs.Arguments.{inits_in}
 use Rattle.lookup.specs.Answers.{checked_of, fault_of, ty_of, typed_of}
@@ -72,13 +72,13 @@ use Rattle.typing.proofs.analyze_mapping.Kinds as analyze-mapping-kinds
 use Rattle.typing.proofs.+analyze_access_analyze_args_analyze_binary_analyze_call_analyze_expr_analyze_init_analyze_inits_analyze_literal_analyze_mapping.Given as goal
 
 abbrev pub analyze_args-invariant-loop-i : goal.analyze_args-invariant-loop-i
-analyze_args-invariant-loop-i l = (written (contract_at l.img) l.initial.notes (ofExprs (contract_at l.img) (exprs_in l.left l.d l.img l.l) (env_of l.img l.env l.top)) ≡ written (contract_at l.img) l.notes (ofExprs (contract_at l.img) (exprs_from (l.left - l.i) (expr_at l.d l.img) l.img l.p l.end) (env_of l.img l.env l.top))) × ((l.i ≤ l.left) × ((due_of l.img l.due ≡ drop l.i (due_of l.img l.initial.due)) × (sum_args (contract_at l.img) (due_of l.img l.initial.due) 0 (exprs_in l.left l.d l.img l.l) (env_of l.img l.env l.top) ≡ (sum_args (contract_at l.img) (due_of l.img l.initial.due) l.i (exprs_from (l.left - l.i) (expr_at l.d l.img) l.img l.p l.end) (env_of l.img l.env l.top) >>= behind (misfit_of l.m)))))
+analyze_args-invariant-loop-i l = (written (contract_at l.img) l.initial.notes (of_exprs (contract_at l.img) (exprs_in l.left l.d l.img l.l) (env_of l.img l.env l.top)) ≡ written (contract_at l.img) l.notes (of_exprs (contract_at l.img) (exprs_from (l.left - l.i) (expr_at l.d l.img) l.img l.p l.end) (env_of l.img l.env l.top))) × ((l.i ≤ l.left) × ((due_of l.img l.due ≡ drop l.i (due_of l.img l.initial.due)) × (sum_args (contract_at l.img) (due_of l.img l.initial.due) 0 (exprs_in l.left l.d l.img l.l) (env_of l.img l.env l.top) ≡ (sum_args (contract_at l.img) (due_of l.img l.initial.due) l.i (exprs_from (l.left - l.i) (expr_at l.d l.img) l.img l.p l.end) (env_of l.img l.env l.top) >>= behind (misfit_of l.m)))))
 
 abbrev pub analyze_args-decreases-loop-i : goal.analyze_args-decreases-loop-i
 analyze_args-decreases-loop-i l = l.left - l.i
 
 abbrev pub analyze_inits-invariant-loop-k : goal.analyze_inits-invariant-loop-k
-analyze_inits-invariant-loop-k l = (written (contract_at l.img) l.initial.notes (ofInits (contract_at l.img) (inits_in l.d l.img l.l) (env_of l.img l.env l.top)) ≡ written (contract_at l.img) l.notes (ofInits (contract_at l.img) (inits_from l.k (expr_at l.d l.img) l.img l.p l.end) (env_of l.img l.env l.top))) × (inits (contract_at l.img) (struct_at l.img l.s) (inits_in l.d l.img l.l) (env_of l.img l.env l.top) ≡ inits (contract_at l.img) (struct_at l.img l.s) (inits_from l.k (expr_at l.d l.img) l.img l.p l.end) (env_of l.img l.env l.top))
+analyze_inits-invariant-loop-k l = (written (contract_at l.img) l.initial.notes (of_inits (contract_at l.img) (inits_in l.d l.img l.l) (env_of l.img l.env l.top)) ≡ written (contract_at l.img) l.notes (of_inits (contract_at l.img) (inits_from l.k (expr_at l.d l.img) l.img l.p l.end) (env_of l.img l.env l.top))) × (inits (contract_at l.img) (struct_at l.img l.s) (inits_in l.d l.img l.l) (env_of l.img l.env l.top) ≡ inits (contract_at l.img) (struct_at l.img l.s) (inits_from l.k (expr_at l.d l.img) l.img l.p l.end) (env_of l.img l.env l.top))
 
 abbrev pub analyze_inits-decreases-loop-k : goal.analyze_inits-decreases-loop-k
 analyze_inits-decreases-loop-k l = l.k

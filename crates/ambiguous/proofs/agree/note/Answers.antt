@@ -1,5 +1,5 @@
 -- note meets its contract.
-use Rattle.ambiguous.proofs.Agreed.{put-there, was_there}
+use Rattle.ambiguous.proofs.Agreed.{put_there, was_there}
 use Rattle.records.specs.Names.{never}
 use lib.ListN.{length-set}
 use native.Mathlib.Omega.{arith}
@@ -43,7 +43,7 @@ pub shape_of-seen-then-v-eq0 : goal.shape_of-seen-then-v-eq0
 shape_of-seen-then-v-eq0 c = simp length-set
 
 pub returns-then-v-eq0 : goal.returns-then-v-eq0
-returns-then-v-eq0 c = λ _. put-there c.args.seen.now c.args.key c.args.n _ (c.slot_of-s.ensures _ c.in-At.is) c.requires.1 c.if-v-eq0.true
+returns-then-v-eq0 c = λ _. put_there c.args.seen.now c.args.key c.args.n _ (c.slot_of-s.ensures _ c.in-At.is) c.requires.1 c.if-v-eq0.true
 
 pub returns-else-v-eq0 : goal.returns-else-v-eq0
 returns-else-v-eq0 c = λ e. was_there c.args.seen.now c.args.key c.args.n _ (c.slot_of-s.ensures _ c.in-At.is) c.if-v-eq0.false e

@@ -1,6 +1,6 @@
 -- note_fields meets its contract.
 use Prim.Native.Nat.{◌-◌, ◌≤◌}
-use Rattle.ambiguous.proofs.Agreed.{ext_refl, ext_trans, Told, begin_fields, end-fields, end-count, one_field}
+use Rattle.ambiguous.proofs.Agreed.{ext_refl, ext_trans, Told, begin_fields, end_fields, end_count, one_field}
 use Rattle.ambiguous.specs.Slots.{Extends}
 use Rattle.records.specs.Names.{never}
 use borrow.Author.Tests.{ltb-true, ltb-false}
@@ -29,10 +29,10 @@ pub shape_of-seen-else-p-end : goal.shape_of-seen-else-p-end
 shape_of-seen-else-p-end c = c.loop-n.invariant.0
 
 pub returns-else-p-end : goal.returns-else-p-end
-returns-else-p-end c = λ _. (c.loop-n.invariant.1.1.0, end-fields c.args.img.now c.args.l _ _ _ _ (ltb-false _ _ c.if-p-end.false) c.loop-n.invariant.1.1.1)
+returns-else-p-end c = λ _. (c.loop-n.invariant.1.1.0, end_fields c.args.img.now c.args.l _ _ _ _ (ltb-false _ _ c.if-p-end.false) c.loop-n.invariant.1.1.1)
 
 pub shape_of-seen-after-loop-n : goal.shape_of-seen-after-loop-n
 shape_of-seen-after-loop-n c = c.loop-n.invariant.0
 
 pub returns-after-loop-n : goal.returns-after-loop-n
-returns-after-loop-n c = λ _. (c.loop-n.invariant.1.1.0, end-count c.args.img.now c.args.l _ _ _ _ c.loop-n-test.false c.loop-n.invariant.1.1.1)
+returns-after-loop-n c = λ _. (c.loop-n.invariant.1.1.0, end_count c.args.img.now c.args.l _ _ _ _ c.loop-n-test.false c.loop-n.invariant.1.1.1)

@@ -1,6 +1,6 @@
 -- note_fields meets its contract.
 use Prim.Native.Nat.{◌-◌, ◌≤◌}
-use Rattle.ambiguous.proofs.Agreed.{ext_refl, ext_trans, Told, begin_fields, end-fields, end-count, one_field}
+use Rattle.ambiguous.proofs.Agreed.{ext_refl, ext_trans, Told, begin_fields, end_fields, end_count, one_field}
 use Rattle.ambiguous.specs.Slots.{Extends}
 use Rattle.records.specs.Names.{never}
 use borrow.Author.Tests.{ltb-true, ltb-false}

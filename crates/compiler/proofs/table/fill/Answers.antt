@@ -8,7 +8,7 @@ use native.Mathlib.Omega.{arith}
 use lib.ListN.{length, get_or}
 use Rattle.rules.specs.Lent.{over, spread}
 use Rattle.rules.specs.Read.{function_at, fourth}
-use Rattle.lent.specs.Over.{over_at, length_over, spread-more}
+use Rattle.lent.specs.Over.{over_at, length_over, spread_more}
 use Rattle.tables.specs.Listed.{functions_in}
 use Rattle.tables.specs.Carried.{few}
 use Rattle.compiler.specs.Made.{three, below, length_below}
@@ -28,7 +28,7 @@ next : (img F t₀ t : List ℕ) (k place first params : ℕ) → place ≡ get_
 unfolding three below
 next img F t₀ t k place first params e f g h =
     rw (g, f, e, h, add-one k)
-    (ap (λ (n : ℕ). over_at (3 * n) (three img F k) (over (spread (three img F) (below k)) t₀)) (sym (length_below k)) ∙ spread-more (three img F) 3 (each img F) (below k) k t₀)
+    (ap (λ (n : ℕ). over_at (3 * n) (three img F k) (over (spread (three img F) (below k)) t₀)) (sym (length_below k)) ∙ spread_more (three img F) 3 (each img F) (below k) k t₀)
 
 all : (img F t₀ : List ℕ) {k n : ℕ} → k ≡ n → over (spread (three img F) (below k)) t₀ ≡ over (spread (three img F) (below n)) t₀
 all img F t₀ e = rw e refl

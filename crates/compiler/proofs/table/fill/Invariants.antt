@@ -8,7 +8,7 @@ use native.Mathlib.Omega.{arith}
 use lib.ListN.{length, get_or}
 use Rattle.rules.specs.Lent.{over, spread}
 use Rattle.rules.specs.Read.{function_at, fourth}
-use Rattle.lent.specs.Over.{over_at, length_over, spread-more}
+use Rattle.lent.specs.Over.{over_at, length_over, spread_more}
 use Rattle.tables.specs.Listed.{functions_in}
 use Rattle.tables.specs.Carried.{few}
 use Rattle.compiler.specs.Made.{three, below, length_below}

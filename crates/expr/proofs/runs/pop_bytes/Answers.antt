@@ -1,5 +1,5 @@
 -- `pop_bytes` meets its contract.
-use Rattle.expr.specs.Runs.{pops, bytes, Laying, begins, bytes-go, bytes-end, bytes-last}
+use Rattle.expr.specs.Runs.{pops, bytes, Laying, begins, bytes_go, bytes_end, bytes_last}
 use Prim.Native.Nat.{◌-◌}
 use native.Mathlib.Omega.{arith}
 use mathlib.Core.Path.{◌∙◌}
@@ -19,7 +19,7 @@ pub overflow_add-i : goal.overflow_add-i
 overflow_add-i c = omega (arith, c.loop-j-test.true, c.loop-j.invariant.place)
 
 pub loop-j-preserved : goal.loop-j-preserved
-loop-j-preserved c = bytes-go (pops c.args.k) c.args.n c.args.end 0 c.args.bytes.now c.loop-j.invariant (omega (arith, c.loop-j-test.true, c.least-stop.ensures)) c.word.ensures c.store_word.ensures
+loop-j-preserved c = bytes_go (pops c.args.k) c.args.n c.args.end 0 c.args.bytes.now c.loop-j.invariant (omega (arith, c.loop-j-test.true, c.least-stop.ensures)) c.word.ensures c.store_word.ensures
 
 pub overflow_sub-k-then-j-end : goal.overflow_sub-k-then-j-end
 overflow_sub-k-then-j-end c = omega (arith, c.if-j-end.true, c.loop-j.invariant.place, c.requires)
@@ -28,10 +28,10 @@ pub shape_of-bytes-then-j-end : goal.shape_of-bytes-then-j-end
 shape_of-bytes-then-j-end c = c.lay_word.auto.0 ∙ c.loop-j.invariant.room
 
 pub returns-then-j-end : goal.returns-then-j-end
-returns-then-j-end c = bytes-last (pops c.args.k) c.args.n c.args.end 0 c.args.bytes.now c.loop-j.invariant (omega (arith, c.loop-j-test.false, c.least-stop.ensures)) c.if-j-end.true c.word-then-j-end.ensures c.lay_word.ensures
+returns-then-j-end c = bytes_last (pops c.args.k) c.args.n c.args.end 0 c.args.bytes.now c.loop-j.invariant (omega (arith, c.loop-j-test.false, c.least-stop.ensures)) c.if-j-end.true c.word-then-j-end.ensures c.lay_word.ensures
 
 pub shape_of-bytes-else-j-end : goal.shape_of-bytes-else-j-end
 shape_of-bytes-else-j-end c = c.loop-j.invariant.room
 
 pub returns-else-j-end : goal.returns-else-j-end
-returns-else-j-end c = bytes-end (pops c.args.k) c.args.n c.args.end 0 c.args.bytes.now c.loop-j.invariant c.if-j-end.false
+returns-else-j-end c = bytes_end (pops c.args.k) c.args.n c.args.end 0 c.args.bytes.now c.loop-j.invariant c.if-j-end.false

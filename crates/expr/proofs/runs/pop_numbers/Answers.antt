@@ -1,5 +1,5 @@
 -- `pop_numbers` meets its contract.
-use Rattle.expr.specs.Runs.{pops, numbers, Laying, begins, numbers-go, numbers-end}
+use Rattle.expr.specs.Runs.{pops, numbers, Laying, begins, numbers_go, numbers_end}
 use Prim.Native.Nat.{◌-◌}
 use native.Mathlib.Omega.{arith}
 use borrow.Author.Rules.{rules}
@@ -18,10 +18,10 @@ pub overflow_add-i : goal.overflow_add-i
 overflow_add-i c = omega (arith, c.loop-j-test.true, c.loop-j.invariant.place)
 
 pub loop-j-preserved : goal.loop-j-preserved
-loop-j-preserved c = numbers-go (pops c.args.k) c.args.n c.args.end 0 c.args.code.now c.loop-j.invariant (omega (arith, c.loop-j-test.true, c.least-stop.ensures)) c.word.ensures
+loop-j-preserved c = numbers_go (pops c.args.k) c.args.n c.args.end 0 c.args.code.now c.loop-j.invariant (omega (arith, c.loop-j-test.true, c.least-stop.ensures)) c.word.ensures
 
 pub shape_of-code : goal.shape_of-code
 shape_of-code c = c.loop-j.invariant.room
 
 pub returns : goal.returns
-returns c = numbers-end (pops c.args.k) c.args.n c.args.end 0 c.args.code.now c.loop-j.invariant (omega (arith, c.loop-j-test.false, c.least-stop.ensures))
+returns c = numbers_end (pops c.args.k) c.args.n c.args.end 0 c.args.code.now c.loop-j.invariant (omega (arith, c.loop-j-test.false, c.least-stop.ensures))

@@ -1,5 +1,5 @@
 -- `pop_numbers` meets its contract.
-use Rattle.expr.specs.Runs.{pops, numbers, Laying, begins, numbers-go, numbers-end}
+use Rattle.expr.specs.Runs.{pops, numbers, Laying, begins, numbers_go, numbers_end}
 use Prim.Native.Nat.{◌-◌}
 use native.Mathlib.Omega.{arith}
 use borrow.Author.Rules.{rules}

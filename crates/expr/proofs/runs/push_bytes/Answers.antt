@@ -1,5 +1,5 @@
 -- `push_bytes` meets its contract.
-use Rattle.expr.specs.Runs.{pushes, bytes, Laying, begins, bytes-go, bytes-end, bytes-last}
+use Rattle.expr.specs.Runs.{pushes, bytes, Laying, begins, bytes_go, bytes_end, bytes_last}
 use Prim.Native.Nat.{◌+◌, ◌-◌}
 use native.Mathlib.Omega.{arith}
 use mathlib.Core.Path.{◌∙◌}
@@ -16,7 +16,7 @@ pub store_word-requires : goal.store_word-requires
 store_word-requires c = omega (arith, c.loop-j-test.true, c.least-stop.ensures, c.loop-j.invariant.room)
 
 pub loop-j-preserved : goal.loop-j-preserved
-loop-j-preserved c = bytes-go pushes c.args.n c.args.end 1 c.args.bytes.now c.loop-j.invariant (omega (arith, c.loop-j-test.true, c.least-stop.ensures)) c.word.ensures c.store_word.ensures
+loop-j-preserved c = bytes_go pushes c.args.n c.args.end 1 c.args.bytes.now c.loop-j.invariant (omega (arith, c.loop-j-test.true, c.least-stop.ensures)) c.word.ensures c.store_word.ensures
 
 pub overflow_add-i-then-j-end : goal.overflow_add-i-then-j-end
 overflow_add-i-then-j-end c = omega (arith, c.if-j-end.true, c.loop-j.invariant.place)
@@ -25,10 +25,10 @@ pub shape_of-bytes-then-j-end : goal.shape_of-bytes-then-j-end
 shape_of-bytes-then-j-end c = c.lay_word.auto.0 ∙ c.loop-j.invariant.room
 
 pub returns-then-j-end : goal.returns-then-j-end
-returns-then-j-end c = bytes-last pushes c.args.n c.args.end 1 c.args.bytes.now c.loop-j.invariant (omega (arith, c.loop-j-test.false, c.least-stop.ensures)) c.if-j-end.true c.word-then-j-end.ensures c.lay_word.ensures
+returns-then-j-end c = bytes_last pushes c.args.n c.args.end 1 c.args.bytes.now c.loop-j.invariant (omega (arith, c.loop-j-test.false, c.least-stop.ensures)) c.if-j-end.true c.word-then-j-end.ensures c.lay_word.ensures
 
 pub shape_of-bytes-else-j-end : goal.shape_of-bytes-else-j-end
 shape_of-bytes-else-j-end c = c.loop-j.invariant.room
 
 pub returns-else-j-end : goal.returns-else-j-end
-returns-else-j-end c = bytes-end pushes c.args.n c.args.end 1 c.args.bytes.now c.loop-j.invariant c.if-j-end.false
+returns-else-j-end c = bytes_end pushes c.args.n c.args.end 1 c.args.bytes.now c.loop-j.invariant c.if-j-end.false

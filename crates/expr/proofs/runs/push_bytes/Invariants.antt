@@ -1,5 +1,5 @@
 -- `push_bytes` meets its contract.
-use Rattle.expr.specs.Runs.{pushes, bytes, Laying, begins, bytes-go, bytes-end, bytes-last}
+use Rattle.expr.specs.Runs.{pushes, bytes, Laying, begins, bytes_go, bytes_end, bytes_last}
 use Prim.Native.Nat.{◌+◌, ◌-◌}
 use native.Mathlib.Omega.{arith}
 use mathlib.Core.Path.{◌∙◌}

@@ -1,5 +1,5 @@
 -- `push_numbers` meets its contract.
-use Rattle.expr.specs.Runs.{pushes, numbers, Laying, begins, numbers-go, numbers-end}
+use Rattle.expr.specs.Runs.{pushes, numbers, Laying, begins, numbers_go, numbers_end}
 use Prim.Native.Nat.{◌+◌, ◌-◌}
 use native.Mathlib.Omega.{arith}
 use borrow.Author.Rules.{rules}
@@ -15,10 +15,10 @@ pub bounds-code-j : goal.bounds-code-j
 bounds-code-j c = omega (arith, c.loop-j-test.true, c.least-stop.ensures, c.loop-j.invariant.room)
 
 pub loop-j-preserved : goal.loop-j-preserved
-loop-j-preserved c = numbers-go pushes c.args.n c.args.end 1 c.args.code.now c.loop-j.invariant (omega (arith, c.loop-j-test.true, c.least-stop.ensures)) c.word.ensures
+loop-j-preserved c = numbers_go pushes c.args.n c.args.end 1 c.args.code.now c.loop-j.invariant (omega (arith, c.loop-j-test.true, c.least-stop.ensures)) c.word.ensures
 
 pub shape_of-code : goal.shape_of-code
 shape_of-code c = c.loop-j.invariant.room
 
 pub returns : goal.returns
-returns c = numbers-end pushes c.args.n c.args.end 1 c.args.code.now c.loop-j.invariant (omega (arith, c.loop-j-test.false, c.least-stop.ensures))
+returns c = numbers_end pushes c.args.n c.args.end 1 c.args.code.now c.loop-j.invariant (omega (arith, c.loop-j-test.false, c.least-stop.ensures))

@@ -1,5 +1,5 @@
 -- `push_numbers` meets its contract.
-use Rattle.expr.specs.Runs.{pushes, numbers, Laying, begins, numbers-go, numbers-end}
+use Rattle.expr.specs.Runs.{pushes, numbers, Laying, begins, numbers_go, numbers_end}
 use Prim.Native.Nat.{◌+◌, ◌-◌}
 use native.Mathlib.Omega.{arith}
 use borrow.Author.Rules.{rules}

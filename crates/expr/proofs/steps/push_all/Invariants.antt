@@ -2,7 +2,7 @@
 use Rattle.emit.specs.Sinks.{sinks}
 use Rattle.expr.specs.Values.{regs_in, argued}
 use Rattle.expr.proofs.Values.{regs_none}
-use Rattle.expr.proofs.Loops.{Saying, says_begin, argue-go, says_end}
+use Rattle.expr.proofs.Loops.{Saying, says_begin, argue_go, says_end}
 use mathlib.Core.List.{List}
 use native.Mathlib.Omega.{arith}
 use mathlib.Core.Path.{◌≡◌, ap}

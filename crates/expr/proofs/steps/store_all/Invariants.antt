@@ -2,7 +2,7 @@
 use Rattle.emit.specs.Sinks.{sinks}
 use Rattle.expr.specs.Values.{regs_in, stored}
 use Rattle.expr.proofs.Values.{store_none}
-use Rattle.expr.proofs.Loops.{Saying, says_begin, store-go, says_end}
+use Rattle.expr.proofs.Loops.{Saying, says_begin, store_go, says_end}
 use native.Mathlib.Omega.{arith}
 use mathlib.Core.Path.{◌≡◌, ap}
 use Prim.Native.Nat.{ℕ, ◌-◌, ◌%◌}
