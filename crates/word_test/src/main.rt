@@ -114,21 +114,30 @@ fn main(rt: HostRuntime) -> io::Result<()> {
     let count = opcodes(&facts);
     println!(rt; "{count}")?;
     show(&rt, with(&facts, Instruction::PUSH, 31, 31, 31, 0))?;
-    show(&rt, with(&facts, Instruction::PUSH, 31, 31, 31, Instruction::TOP))?;
+    show(
+        &rt,
+        with(&facts, Instruction::PUSH, 31, 31, 31, Instruction::TOP),
+    )?;
     show(&rt, with(&facts, Instruction::PUSH, 32, 0, 0, 0))?;
     show(&rt, with(&facts, Instruction::PUSH, 0, 32, 0, 0))?;
     show(&rt, with(&facts, Instruction::PUSH, 0, 0, 32, 0))?;
     show(&rt, with(&facts, Instruction::PUSH, 0, 0, 0, 512))?;
-    show(&rt, with(
-        &facts,
-        Instruction::VERIFY_MERKLE,
-        Instruction::HEAP,
-        Instruction::LAST_FREE,
-        Instruction::ZERO,
-        1,
-    ))?;
+    show(
+        &rt,
+        with(
+            &facts,
+            Instruction::VERIFY_MERKLE,
+            Instruction::HEAP,
+            Instruction::LAST_FREE,
+            Instruction::ZERO,
+            1,
+        ),
+    )?;
     show(&rt, cleared(&facts, 0xff80_0000_0000_4011))?;
     show(&rt, cleared(&facts, 0xff80_0000_0000_401f))?;
-    show(&rt, Instruction::patched(&facts, 0xff80_0000_0000_4011, Instruction::offset(3, 9)))?;
+    show(
+        &rt,
+        Instruction::patched(&facts, 0xff80_0000_0000_4011, Instruction::offset(3, 9)),
+    )?;
     show(&rt, Instruction::patched(&facts, 0x1f, 1))
 }
