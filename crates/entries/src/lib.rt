@@ -1,4 +1,4 @@
-// The function table as a lent slice of entry structs (01: What comes back). Every function over the slice is thin and proved by a walk of its MIR; what an entry holds is computed by value.
+// The function table as a lent slice of entry structs (01: What comes back). Every function over the slice is thin; what an entry holds is computed by value.
 #![tactic(auto)]
 
 ghost use Rattle.std.specs.Prelude.{◌≡◌, ◌≤◌, ◌<◌, length, get_or, set, replicate};

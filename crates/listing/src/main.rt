@@ -1,72 +1,54 @@
 // The listing (01: Sample contracts): an image on standard input, its words or its refusal on standard output.
 #![tactic(auto)]
 
-use libc::{STDERR_FILENO, STDIN_FILENO, STDOUT_FILENO};
 use rules::Answer;
+use std::io;
+use std::io::{Read, Write};
 
-fn write(text: &[u8]) {
-    io::write_all(STDOUT_FILENO, text);
-}
-
-fn number(n: u64) {
-    io::print_decimal(STDOUT_FILENO, n);
-}
-
-fn refused(a: Answer) {
-    write(b"refused ");
-    number(a.refusal);
-    write(b" ");
-    number(a.place);
-    write(b" ");
-    number(a.count);
-    write(b"\n");
+fn refused(rt: &impl Print, a: Answer) -> io::Result<()> {
+    println!(rt; "refused {} {} {}", a.refusal, a.place, a.count)
 }
 
 // A line for each word.
-fn words(code: &[u64]) {
-    write(b"words ");
-    number(code.len() as u64);
-    write(b"\n");
+fn words(rt: &impl Print, code: &[u64]) -> io::Result<()> {
+    println!(rt; "words {}", code.len())?;
     let mut i = 0;
     while i < code.len() {
-        line(i, code[i]);
+        line(rt, i, code[i])?;
         i += 1;
     }
+    Ok(())
 }
 
-fn line(i: usize, w: u64) {
+fn line(rt: &impl Print, i: usize, w: u64) -> io::Result<()> {
     let mut text = [0u8; lines::LINE];
     let n = lines::line(&mut text, i as u64, w);
-    write(&text[..n]);
+    io::writer(rt).write_all(&text[..n])
 }
 
 // An accepted program fits the room.
-fn accepted(code: &[u64], count: u64) {
+fn accepted(rt: &impl Print, code: &[u64], count: u64) -> io::Result<()> {
     if count <= (code.len() as u64) {
         let n = count as usize;
-        words(&code[..n]);
+        words(rt, &code[..n])?;
     }
+    Ok(())
 }
 
-fn listing(image: &[u8]) {
+fn listing(rt: &impl Print, image: &[u8]) -> io::Result<()> {
     let mut code = [0u64; 8192];
     let mut table = [0u64; 768];
     let a = compiler::build(image, &mut code, &mut table);
     if a.refusal == 0 {
-        accepted(&code, a.count);
+        accepted(rt, &code, a.count)
     } else {
-        refused(a);
+        refused(rt, a)
     }
 }
 
-fn main() {
+fn main(rt: HostRuntime) -> io::Result<()> {
     // One byte more than an image may have: then it is refused, whatever follows.
-    let mut image = [0u8; 65537];
-    let n = io::read_full(STDIN_FILENO, &mut image);
-    let mut rest = [0u8; 1];
-    if libc::read(STDIN_FILENO, &mut rest) < 0 {
-        io::write_all(STDERR_FILENO, b"listing: standard input cannot be read\n");
-    } else {
-        listing(&image[..n]);
-    }
+    let mut image = Vec::new(rt.alloc());
+    rt.stdin().take(65537).read_to_end(&mut image)?;
+    listing(&rt, &image)
 }

@@ -1,22 +1,20 @@
 // Reads an image on standard input, to its end or one byte past the largest image, and writes its refusal and place.
 #![tactic(auto)]
 
-use libc::{STDIN_FILENO, STDOUT_FILENO};
 use rules::Seen;
+use std::io;
+use std::io::Read;
 
-fn write(refusal: usize, place: usize) {
-    io::print_decimal(STDOUT_FILENO, refusal as u64);
-    io::write_all(STDOUT_FILENO, b" ");
-    io::print_decimal(STDOUT_FILENO, place as u64);
-    io::write_all(STDOUT_FILENO, b"\n");
+fn write(rt: &impl Print, refusal: usize, place: usize) -> io::Result<()> {
+    println!(rt; "{refusal} {place}")
 }
 
-fn main() {
-    let mut buffer = [0u8; 65537];
-    let n = io::read_full(STDIN_FILENO, &mut buffer);
-    let seen = image::check(&buffer[..n]);
+fn main(rt: HostRuntime) -> io::Result<()> {
+    let mut image = Vec::new(rt.alloc());
+    rt.stdin().take(65537).read_to_end(&mut image)?;
+    let seen = image::check(&image);
     match seen {
-        Seen::Sound(_, _) => write(0, 0),
-        Seen::Fault(number, place) => write(number, place),
+        Seen::Sound(_, _) => write(&rt, 0, 0),
+        Seen::Fault(number, place) => write(&rt, number, place),
     }
 }

@@ -2,13 +2,9 @@
 // index that its offset leads to. A refusal prints `refused`, number and place.
 #![tactic(auto)]
 
-use libc::{STDIN_FILENO, STDOUT_FILENO};
 use rules::Why;
-
-fn number(n: u64, end: &[u8]) {
-    io::print_decimal(STDOUT_FILENO, n);
-    io::write_all(STDOUT_FILENO, end);
-}
+use std::io;
+use std::io::Read;
 
 // 0, or 1 and the index that the offset leads to.
 fn from(w: Why) -> u64 {
@@ -20,29 +16,25 @@ fn from(w: Why) -> u64 {
     0
 }
 
-fn refusal(w: Why) {
-    io::write_all(STDOUT_FILENO, b"refused ");
-    number(w.refusal, b" ");
-    number(w.place, b"\n");
+fn refusal(rt: &impl Print, w: Why) -> io::Result<()> {
+    println!(rt; "refused {} {}", w.refusal, w.place)
 }
 
-fn all(image: &[u8]) {
+fn all(rt: &impl Print, image: &[u8]) -> io::Result<()> {
     let mut i = 0;
     while i < 8192 {
         let w = why::why(image, i);
         if w.refusal != 0 {
-            refusal(w);
-            return;
+            return refusal(rt, w);
         }
-        number(i, b" ");
-        number(w.place, b" ");
-        number(from(w), b"\n");
+        println!(rt; "{i} {} {}", w.place, from(w))?;
         i += 1;
     }
+    Ok(())
 }
 
-fn main() {
-    let mut image = [0u8; 65537];
-    let n = io::read_full(STDIN_FILENO, &mut image);
-    all(&image[..n]);
+fn main(rt: HostRuntime) -> io::Result<()> {
+    let mut image = Vec::new(rt.alloc());
+    rt.stdin().take(65537).read_to_end(&mut image)?;
+    all(&rt, &image)
 }

@@ -3,48 +3,30 @@
 #![tactic(auto)]
 
 use isa::{Decoded, Encoded, Fields, Height, Instruction, Op, Opcode};
-use libc::STDOUT_FILENO;
+use std::io;
 
-fn space() {
-    io::write_all(STDOUT_FILENO, b" ");
-}
-
-fn show(answer: Encoded) {
+fn show(rt: &impl Print, answer: Encoded) -> io::Result<()> {
     match answer {
-        Encoded::Word(w) => {
-            io::print_hex(STDOUT_FILENO, w, 16);
-        }
-        Encoded::NoWord => {
-            io::write_all(STDOUT_FILENO, b"no word");
-        }
+        Encoded::Word(w) => println!(rt; "{w:016x}"),
+        Encoded::NoWord => println!(rt; "no word"),
     }
-    io::write_all(STDOUT_FILENO, b"\n");
 }
 
 // A word read, and the fields written again with its top bits.
-fn again(facts: &[u8; 256], w: u64) {
-    io::print_hex(STDOUT_FILENO, w, 16);
-    space();
+fn again(rt: &impl Print, facts: &[u8; 256], w: u64) -> io::Result<()> {
+    print!(rt; "{w:016x} ")?;
     match Instruction::decode(facts, w) {
         Decoded::Read(i, top) => {
             let o = i.opcode;
-            io::print_decimal(STDOUT_FILENO, o.number() as u64);
-            space();
-            io::print_decimal(STDOUT_FILENO, i.rd as u64);
-            space();
-            io::print_decimal(STDOUT_FILENO, i.rs1 as u64);
-            space();
-            io::print_decimal(STDOUT_FILENO, i.rs2 as u64);
-            space();
-            io::print_decimal(STDOUT_FILENO, i.imm as u64);
-            space();
-            io::print_decimal(STDOUT_FILENO, top as u64);
-            space();
-            show(i.encode(top));
+            let number = o.number();
+            let rd = i.rd;
+            let rs1 = i.rs1;
+            let rs2 = i.rs2;
+            let imm = i.imm;
+            print!(rt; "{number} {rd} {rs1} {rs2} {imm} {top} ")?;
+            show(rt, i.encode(top))
         }
-        Decoded::Refused => {
-            io::write_all(STDOUT_FILENO, b"refused\n");
-        }
+        Decoded::Refused => println!(rt; "refused"),
     }
 }
 
@@ -74,44 +56,45 @@ fn with(facts: &[u8; 256], n: u8, rd: u8, rs1: u8, rs2: u8, top: u16) -> Encoded
 }
 
 // A word for what is told, where it holds.
-fn tell(holds: bool, what: &[u8]) {
+fn tell(rt: &impl Print, holds: bool, what: &str) -> io::Result<()> {
     if holds {
-        space();
-        io::write_all(STDOUT_FILENO, what);
+        print!(rt; " {what}")?;
     }
+    Ok(())
 }
 
 // What a word does to the height.
-fn told(height: Height) {
+fn told(rt: &impl Print, height: Height) -> io::Result<()> {
     match height {
-        Height::Same => {}
-        Height::Up => tell(true, b"+1"),
-        Height::Down => tell(true, b"-1"),
-        Height::Call => tell(true, b"call"),
-        Height::Ret => tell(true, b"ret"),
+        Height::Same => Ok(()),
+        Height::Up => tell(rt, true, "+1"),
+        Height::Down => tell(rt, true, "-1"),
+        Height::Call => tell(rt, true, "call"),
+        Height::Ret => tell(rt, true, "ret"),
     }
 }
 
 // What is known of a low byte.
-fn known(facts: &[u8; 256], n: u8) {
+fn known(rt: &impl Print, facts: &[u8; 256], n: u8) -> io::Result<()> {
     let f = isa::byte::fact(facts, n);
-    io::print_hex(STDOUT_FILENO, n as u64, 2);
-    tell(f.known, b"opcode");
-    tell(f.rd, b"rd");
-    tell(f.rs1, b"rs1");
-    tell(f.rs2, b"rs2");
-    tell(f.imm, b"imm");
+    print!(rt; "{n:02x}")?;
+    tell(rt, f.known, "opcode")?;
+    tell(rt, f.rd, "rd")?;
+    tell(rt, f.rs1, "rs1")?;
+    tell(rt, f.rs2, "rs2")?;
+    tell(rt, f.imm, "imm")?;
     let height = f.height;
-    told(height);
-    io::write_all(STDOUT_FILENO, b"\n");
+    told(rt, height)?;
+    println!(rt)
 }
 
 // Each low byte with bits 55 to 63 set, imm -1 and the registers 31, 0 and 30; then what is known of it.
-fn low_bytes(facts: &[u8; 256]) {
+fn low_bytes(rt: &impl Print, facts: &[u8; 256]) -> io::Result<()> {
     for n in 0..33 {
-        again(facts, 0xffff_ffff_fff8_1f00 + n);
-        known(facts, n as u8);
+        again(rt, facts, 0xffff_ffff_fff8_1f00 + n)?;
+        known(rt, facts, n as u8)?;
     }
+    Ok(())
 }
 
 // How many low bytes are opcodes.
@@ -125,27 +108,36 @@ fn opcodes(facts: &[u8; 256]) -> u64 {
     k
 }
 
-fn main() {
+fn main(rt: HostRuntime) -> io::Result<()> {
     let facts = isa::byte::facts();
-    low_bytes(&facts);
-    io::print_decimal(STDOUT_FILENO, opcodes(&facts));
-    io::write_all(STDOUT_FILENO, b"\n");
-    show(with(&facts, Instruction::PUSH, 31, 31, 31, 0));
-    show(with(&facts, Instruction::PUSH, 31, 31, 31, Instruction::TOP));
-    show(with(&facts, Instruction::PUSH, 32, 0, 0, 0));
-    show(with(&facts, Instruction::PUSH, 0, 32, 0, 0));
-    show(with(&facts, Instruction::PUSH, 0, 0, 32, 0));
-    show(with(&facts, Instruction::PUSH, 0, 0, 0, 512));
-    show(with(
-        &facts,
-        Instruction::VERIFY_MERKLE,
-        Instruction::HEAP,
-        Instruction::LAST_FREE,
-        Instruction::ZERO,
-        1,
-    ));
-    show(cleared(&facts, 0xff80_0000_0000_4011));
-    show(cleared(&facts, 0xff80_0000_0000_401f));
-    show(Instruction::patched(&facts, 0xff80_0000_0000_4011, Instruction::offset(3, 9)));
-    show(Instruction::patched(&facts, 0x1f, 1));
+    low_bytes(&rt, &facts)?;
+    let count = opcodes(&facts);
+    println!(rt; "{count}")?;
+    show(&rt, with(&facts, Instruction::PUSH, 31, 31, 31, 0))?;
+    show(
+        &rt,
+        with(&facts, Instruction::PUSH, 31, 31, 31, Instruction::TOP),
+    )?;
+    show(&rt, with(&facts, Instruction::PUSH, 32, 0, 0, 0))?;
+    show(&rt, with(&facts, Instruction::PUSH, 0, 32, 0, 0))?;
+    show(&rt, with(&facts, Instruction::PUSH, 0, 0, 32, 0))?;
+    show(&rt, with(&facts, Instruction::PUSH, 0, 0, 0, 512))?;
+    show(
+        &rt,
+        with(
+            &facts,
+            Instruction::VERIFY_MERKLE,
+            Instruction::HEAP,
+            Instruction::LAST_FREE,
+            Instruction::ZERO,
+            1,
+        ),
+    )?;
+    show(&rt, cleared(&facts, 0xff80_0000_0000_4011))?;
+    show(&rt, cleared(&facts, 0xff80_0000_0000_401f))?;
+    show(
+        &rt,
+        Instruction::patched(&facts, 0xff80_0000_0000_4011, Instruction::offset(3, 9)),
+    )?;
+    show(&rt, Instruction::patched(&facts, 0x1f, 1))
 }

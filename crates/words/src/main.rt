@@ -1,58 +1,50 @@
 // The lines of the words on standard input (02: P3), 8 little-endian bytes each, a block at a time: any number of them, in constant memory.
 #![tactic(auto)]
 
-use libc::{STDERR_FILENO, STDIN_FILENO, STDOUT_FILENO};
+use std::io;
+use std::io::{Read, Write};
 
 // The words of a block.
 const BLOCK: u64 = 1024;
 
+// The bytes of a block's words.
+const BYTES: usize = 8192;
+
 // Every block starts below it, so that its indices have 64 bits.
 const LAST: u64 = 18446744073709550592;
 
-// One line on standard error.
-fn tell(what: &[u8]) {
-    io::write_all(STDERR_FILENO, b"words: ");
-    io::write_all(STDERR_FILENO, what);
-    io::write_all(STDERR_FILENO, b"\n");
-}
-
 // The bytes behind the last whole word.
-fn left_over(n: usize) {
-    io::write_all(STDERR_FILENO, b"words: bytes behind the last whole word: ");
-    io::print_decimal(STDERR_FILENO, n as u64);
-    io::write_all(STDERR_FILENO, b"\n");
+fn left_over(rt: &impl Eprint, n: usize) -> io::Result<()> {
+    eprintln!(rt; "words: bytes behind the last whole word: {n}")
 }
 
-// What ends the input: a read that fails, bytes left over, or nothing more.
-fn ended(n: usize) {
-    let mut rest = [0u8; 1];
-    if libc::read(STDIN_FILENO, &mut rest) != 0 {
-        tell(b"standard input cannot be read");
-    } else if n != 0 {
-        left_over(n);
+// What ends the input: bytes left over, or nothing more.
+fn ended(rt: &impl Eprint, n: usize) -> io::Result<()> {
+    if n != 0 {
+        left_over(rt, n)?;
     }
+    Ok(())
 }
 
 // The next block, its first word with that index: whether another may follow.
-fn block(words: &mut [u8], out: &mut [u8], first: u64) -> bool {
-    let n = io::read_full(STDIN_FILENO, words);
-    let k = lines::lines(out, first, &words[..n]);
-    if !io::write_all(STDOUT_FILENO, &out[..k]) {
-        tell(b"standard output cannot be written");
-        return false;
+fn block(rt: &HostRuntime, words: &mut Vec<u8>, out: &mut [u8], first: u64) -> io::Result<bool> {
+    words.clear();
+    let n = rt.stdin().take(BYTES as u64).read_to_end(words)?;
+    let k = lines::lines(out, first, words);
+    rt.stdout().write_all(&out[..k])?;
+    if n == BYTES {
+        return Ok(true);
     }
-    if n == words.len() {
-        return true;
-    }
-    ended(n % 8);
-    false
+    ended(rt, n % 8)?;
+    Ok(false)
 }
 
-fn main() {
-    let mut words = [0u8; 8192];
+fn main(rt: HostRuntime) -> io::Result<()> {
+    let mut words = Vec::with_capacity(rt.alloc(), BYTES)?;
     let mut out = [0u8; 40960];
     let mut first = 0;
-    while first < LAST && block(&mut words, &mut out, first) {
+    while first < LAST && block(&rt, &mut words, &mut out, first)? {
         first += BLOCK;
     }
+    Ok(())
 }
