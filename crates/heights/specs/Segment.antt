@@ -92,9 +92,9 @@ module _ (M : Reading) where
     onward : {j : ℕ} {t : M.State} → Run ws i s j t → (o : Open) → At ws j o → (k : ℕ) (u : M.State) → Leads j t o (flow o) k u → Run ws i s k u
 
   -- One run after another.
-  pub after : (ws : List Open) (i l m : ℕ) (s v w : M.State) → Run ws i s l v → Run ws l v m w → Run ws i s m w
-  after ws i l m s v w p enter = p
-  after ws i l m s v w p (onward {j} {t} q o a k u g) = onward (after ws i l j s v t p q) o a k u g
+  pub after : (ws : List Open) (i l : ℕ) (s v : M.State) (m : ℕ) (w : M.State) → Run ws i s l v → Run ws l v m w → Run ws i s m w
+  after ws i l s v m w p enter = p
+  after ws i l s v m w p (onward {j} {t} q o a k u g) = onward (after ws i l s v j t p q) o a k u g
 
   -- A run ends: at an end.
   abbrev pub Ended : List Open → ℕ → M.State → Type 0
@@ -106,7 +106,7 @@ module _ (M : Reading) where
 
   -- Led to index j, it leaves as it does from there.
   pub leaves_after : (ws : List Open) (i j k : ℕ) (s t : M.State) (es : List M.Note) → Run ws i s j t → Leaves ws j t k es → Leaves ws i s k es
-  leaves_after ws i j k s t es r (l, u, q, e) = (l, u, after ws i j l s t u r q, e)
+  leaves_after ws i j k s t es r (l, u, q, e) = (l, u, after ws i j s t l u r q, e)
 
   -- What leaves to index j as b says, and from there on, leaves all.
   pub leaves_on : (ws : List Open) (i j k : ℕ) (s : M.State) (b : M.Note) (es : List M.Note)

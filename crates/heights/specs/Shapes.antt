@@ -42,8 +42,8 @@ module _ (M : Reading) where
   unfolding loops
   loop_leaves z r c w b whole d s at in_first =
       leaves_on M whole d (d + length c) _ s b (b ∷ []) (in_first (stands_left whole d c _ at)) (λ u h.
-      leaves_after M whole (d + length c) (suc (d + length c)) _ u u (b ∷ []) (onward enter fork (first_of whole _ fork _ behind) _ u (inr refl, refl))
-      (d + length (loops z r c w), u, onward enter out (first_of whole _ out _ (stands_right whole (d + length c) _ (fork ∷ []) _ (omega arith) behind)) _ u (omega (arith, length-append c (fork ∷ out ∷ (w ++ (back ∷ []))), length-append w (back ∷ [])), refl), inl (refl, h)))
+      leaves_after M whole (d + length c) (suc (d + length c)) _ u u (b ∷ []) (onward enter fork (first_of whole _ fork (out ∷ (w ++ (back ∷ []))) behind) _ u (inr refl, refl))
+      (d + length (loops z r c w), u, onward enter out (first_of whole _ out (w ++ (back ∷ [])) (stands_right whole (d + length c) _ (fork ∷ []) (out ∷ (w ++ (back ∷ []))) (omega arith) behind)) _ u (omega (arith, length-append c (fork ∷ out ∷ (w ++ (back ∷ []))), length-append w (back ∷ [])), refl), inl (refl, h)))
     where
       fork : Open
       fork = jump z op.Jnz r (Imm.pos 2)

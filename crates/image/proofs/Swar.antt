@@ -9,7 +9,7 @@ use borrow.Author.Tests.{eq-eqb, ltb-true}
 use lib.Bits.{bit_and, bit_xor, and_block, xor_block, and_le_r, xor_lt}
 use lib.Dec.{T, eqb, ltb}
 use lib.ListN.{get_or}
-use Rattle.rules.specs.Bytes.{byte_at, le16, le32, name_byte_lem, ◌and◌}
+use Rattle.rules.specs.Bytes.{byte_at, le16, le32, name_byte_lem}
 use Rattle.image.specs.Names.{Fours}
 use Rattle.image.proofs.Every.{by_cases, every_at, truth}
 

@@ -109,6 +109,8 @@ linked_open : (F : List ℕ) (i : ℕ) (a : Option ℕ) (x : Option Entry) → A
 unfolding or_first distance distance_to pick bits_of
 linked_open F i (some k) (some e) (both _ _ h g l) f s =
     linked_call F i k (omega arith) ∙ word_cut op.Call 0 0 0 _ _ (ap (λ (n : ℕ). n % 2 ^ 32) (rw (lt-ltb _ _ h, g) (bits_less e.first i l s)))
+linked_open F i none (some e) x8 f s = elim x8 [ ]
+linked_open F i (some k) none x7 f s = elim x7 [ ]
 linked_open F i none none neither f s = linked_call F i 256 (omega arith) ∙ rw (le-ltb _ _ f) refl
 
 module _ (C : Contract) (F : List ℕ) (T : List Entry) (few : length F ≤ 256) (placed : Placed F 0 C.functions T) where

@@ -82,14 +82,14 @@ pub in_args-loop-k-init : goal.in_args-loop-k-init
 in_args-loop-k-init t c = rw (c.body-p.ensures.0, c.past-end.ensures.0)
 
 pub in_args-returns-in-At : goal.in_args-returns-in-At
-in_args-returns-in-At t c = args_here (contract_at c.args.img.now) c.args.img.now (expr_at c.args.d c.args.img.now) c.loop-k.k c.loop-k.p c.past-end.result c.loop-k-test.true (ltb-true _ _ c.if-p-end.true) c.in-At.is c.in_expr-a.ensures ∙ sym c.loop-k.invariant
+in_args-returns-in-At t c = args_here (contract_at c.args.img.now) c.args.img.now (expr_at c.args.d c.args.img.now) c.loop-k.k c.loop-k.p c.past-end.result c.loop-k-test.true c.if-p-end.true c.in-At.is c.in_expr-a.ensures ∙ sym c.loop-k.invariant
 
 pub in_args-loop-k-preserved : goal.in_args-loop-k-preserved
-in_args-loop-k-preserved t c = c.loop-k.invariant ∙ rw c.past-p.ensures.0 (args_next (contract_at c.args.img.now) c.args.img.now (expr_at c.args.d c.args.img.now) c.loop-k.k c.loop-k.p c.past-end.result c.loop-k-test.true (ltb-true _ _ c.if-p-end.true) c.in-Nowhere.is c.in_expr-a.ensures)
+in_args-loop-k-preserved t c = c.loop-k.invariant ∙ rw c.past-p.ensures.0 (args_next (contract_at c.args.img.now) c.args.img.now (expr_at c.args.d c.args.img.now) c.loop-k.k c.loop-k.p c.past-end.result c.loop-k-test.true c.if-p-end.true c.in-Nowhere.is c.in_expr-a.ensures)
 
 pub in_args-returns-else-p-end : goal.in_args-returns-else-p-end
 unfolding spot_of
-in_args-returns-else-p-end t c = args_end (contract_at c.args.img.now) c.args.img.now (expr_at c.args.d c.args.img.now) c.loop-k.k c.loop-k.p c.past-end.result (ltb-false _ _ c.if-p-end.false) ∙ sym c.loop-k.invariant
+in_args-returns-else-p-end t c = args_end (contract_at c.args.img.now) c.args.img.now (expr_at c.args.d c.args.img.now) c.loop-k.k c.loop-k.p c.past-end.result c.if-p-end.false ∙ sym c.loop-k.invariant
 
 pub in_args-returns-after-loop-k : goal.in_args-returns-after-loop-k
 unfolding spot_of
@@ -127,14 +127,14 @@ pub in_inits-loop-k-init : goal.in_inits-loop-k-init
 in_inits-loop-k-init t c = rw (c.body-p.ensures.0, c.past-end.ensures.0)
 
 pub in_inits-returns-in-At : goal.in_inits-returns-in-At
-in_inits-returns-in-At t c = inits_here (contract_at c.args.img.now) c.args.img.now (expr_at c.args.d c.args.img.now) c.loop-k.k c.loop-k.p c.past-end.result c.loop-k-test.true (ltb-true _ _ c.if-p-end.true) c.in-At.is (rw c.second.ensures at c.in_expr-a.ensures) ∙ sym c.loop-k.invariant
+in_inits-returns-in-At t c = inits_here (contract_at c.args.img.now) c.args.img.now (expr_at c.args.d c.args.img.now) c.loop-k.k c.loop-k.p c.past-end.result c.loop-k-test.true c.if-p-end.true c.in-At.is (rw c.second.ensures at c.in_expr-a.ensures) ∙ sym c.loop-k.invariant
 
 pub in_inits-loop-k-preserved : goal.in_inits-loop-k-preserved
-in_inits-loop-k-preserved t c = c.loop-k.invariant ∙ rw c.past-p.ensures.0 (inits_next (contract_at c.args.img.now) c.args.img.now (expr_at c.args.d c.args.img.now) c.loop-k.k c.loop-k.p c.past-end.result c.loop-k-test.true (ltb-true _ _ c.if-p-end.true) c.in-Nowhere.is (rw c.second.ensures at c.in_expr-a.ensures))
+in_inits-loop-k-preserved t c = c.loop-k.invariant ∙ rw c.past-p.ensures.0 (inits_next (contract_at c.args.img.now) c.args.img.now (expr_at c.args.d c.args.img.now) c.loop-k.k c.loop-k.p c.past-end.result c.loop-k-test.true c.if-p-end.true c.in-Nowhere.is (rw c.second.ensures at c.in_expr-a.ensures))
 
 pub in_inits-returns-else-p-end : goal.in_inits-returns-else-p-end
 unfolding spot_of
-in_inits-returns-else-p-end t c = inits_over (contract_at c.args.img.now) c.args.img.now (expr_at c.args.d c.args.img.now) c.loop-k.k c.loop-k.p c.past-end.result (ltb-false _ _ c.if-p-end.false) ∙ sym c.loop-k.invariant
+in_inits-returns-else-p-end t c = inits_over (contract_at c.args.img.now) c.args.img.now (expr_at c.args.d c.args.img.now) c.loop-k.k c.loop-k.p c.past-end.result c.if-p-end.false ∙ sym c.loop-k.invariant
 
 pub in_inits-returns-after-loop-k : goal.in_inits-returns-after-loop-k
 unfolding spot_of

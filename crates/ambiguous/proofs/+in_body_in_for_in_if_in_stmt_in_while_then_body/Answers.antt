@@ -81,14 +81,14 @@ pub in_body-loop-k-init : goal.in_body-loop-k-init
 in_body-loop-k-init t c = rw (c.body-p.ensures.0, c.past-end.ensures.0)
 
 pub in_body-returns-in-At : goal.in_body-returns-in-At
-in_body-returns-in-At t c = body_here (contract_at c.args.img.now) c.args.img.now (stmt_at_lem c.args.d c.args.img.now) c.loop-k.k c.loop-k.p c.past-end.result c.loop-k-test.true (ltb-true _ _ c.if-p-end.true) c.in-At.is c.in_stmt-a.ensures ∙ sym c.loop-k.invariant
+in_body-returns-in-At t c = body_here (contract_at c.args.img.now) c.args.img.now (stmt_at_lem c.args.d c.args.img.now) c.loop-k.k c.loop-k.p c.past-end.result c.loop-k-test.true c.if-p-end.true c.in-At.is c.in_stmt-a.ensures ∙ sym c.loop-k.invariant
 
 pub in_body-loop-k-preserved : goal.in_body-loop-k-preserved
-in_body-loop-k-preserved t c = c.loop-k.invariant ∙ rw c.past-p.ensures.0 (body_next (contract_at c.args.img.now) c.args.img.now (stmt_at_lem c.args.d c.args.img.now) c.loop-k.k c.loop-k.p c.past-end.result c.loop-k-test.true (ltb-true _ _ c.if-p-end.true) c.in-Nowhere.is c.in_stmt-a.ensures)
+in_body-loop-k-preserved t c = c.loop-k.invariant ∙ rw c.past-p.ensures.0 (body_next (contract_at c.args.img.now) c.args.img.now (stmt_at_lem c.args.d c.args.img.now) c.loop-k.k c.loop-k.p c.past-end.result c.loop-k-test.true c.if-p-end.true c.in-Nowhere.is c.in_stmt-a.ensures)
 
 pub in_body-returns-else-p-end : goal.in_body-returns-else-p-end
 unfolding spot_of
-in_body-returns-else-p-end t c = body_end (contract_at c.args.img.now) c.args.img.now (stmt_at_lem c.args.d c.args.img.now) c.loop-k.k c.loop-k.p c.past-end.result (ltb-false _ _ c.if-p-end.false) ∙ sym c.loop-k.invariant
+in_body-returns-else-p-end t c = body_end (contract_at c.args.img.now) c.args.img.now (stmt_at_lem c.args.d c.args.img.now) c.loop-k.k c.loop-k.p c.past-end.result c.if-p-end.false ∙ sym c.loop-k.invariant
 
 pub in_body-returns-after-loop-k : goal.in_body-returns-after-loop-k
 unfolding spot_of

@@ -2,7 +2,6 @@
 use Rattle.emit.specs.Leaves.{raw_word, cuts}
 use Rattle.rules.specs.Machine.{bits_of}
 use mathlib.Core.Path.{refl, ◌∙◌}
-use borrow.Author.Rules.{rules}
 use Rattle.emit.proofs.emit.Goals as goal
 
 pub returns : goal.returns

@@ -1,7 +1,6 @@
 -- `emit_call` meets its contract.
 use Rattle.emit.specs.Ran.{raw, call_of}
 use mathlib.Core.Path.{ap, ◌∙◌}
-use borrow.Author.Rules.{rules}
 use Rattle.emit.proofs.emit_call.Goals as goal
 
 pub returns : goal.returns

@@ -1,6 +1,5 @@
 -- `emit_new` meets its contract.
 use Rattle.emit.specs.Leaves.{new_word}
-use borrow.Author.Rules.{rules}
 use Rattle.emit.proofs.emit_new.Goals as goal
 
 pub returns : goal.returns

@@ -1,7 +1,6 @@
 -- `open_call` meets its contract.
 use mathlib.Core.Path.{refl}
 use Rattle.emit.specs.Ran.{call_of}
-use borrow.Author.Rules.{rules}
 use Rattle.emit.proofs.open_call.Goals as goal
 
 pub returns : goal.returns

@@ -1,7 +1,6 @@
 -- `patch` meets its contract.
 use mathlib.Core.Path.{◌∙◌}
 use Rattle.emit.specs.Sinks.{sinks, laid_one}
-use borrow.Author.Rules.{rules}
 use Rattle.emit.proofs.patch.Goals as goal
 
 pub returns : goal.returns

@@ -1,7 +1,6 @@
 -- `put` meets its contract.
 use Rattle.emit.specs.Ran.{raw}
 use Rattle.emit.specs.Refines.{adds}
-use borrow.Author.Rules.{rules}
 use Rattle.emit.proofs.put.Goals as goal
 
 pub returns : goal.returns

@@ -1,7 +1,6 @@
 -- `word` meets its contract.
 use Rattle.emit.specs.Ran.{or_zero, word_of}
 use mathlib.Core.Path.{sym, ap, ◌∙◌}
-use borrow.Author.Rules.{rules}
 use Rattle.emit.proofs.word.Goals as goal
 
 pub returns-in-Word : goal.returns-in-Word

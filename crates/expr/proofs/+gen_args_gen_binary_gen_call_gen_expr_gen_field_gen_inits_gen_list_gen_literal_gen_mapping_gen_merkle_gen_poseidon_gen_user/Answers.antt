@@ -188,7 +188,7 @@ pub gen_args-loop-v-smaller : goal.gen_args-loop-v-smaller
 gen_args-loop-v-smaller t c = omega (arith, c.loop-v-test.true, ap (λ (x : Several). x.count) c.keep-v.ensures.0)
 
 pub gen_args-loop-v-preserved : goal.gen_args-loop-v-preserved
-gen_args-loop-v-preserved t c = args_go c.args.img.now _ _ _ c.args.rules c.args.scope.now c.args.d c.args.e c.loop-v.invariant c.loop-v-test.true (ltb-true _ _ c.if-p-e.true) c.gen_expr-a.ensures c.keep-v.ensures.0 c.keep-v.ensures.1 c.past-p.ensures.0 (c.gen_expr-a.auto.0, c.gen_expr-a.auto.1.0)
+gen_args-loop-v-preserved t c = args_go c.args.img.now _ _ _ c.args.rules c.args.scope.now c.args.d c.args.e c.loop-v.invariant c.loop-v-test.true c.if-p-e.true c.gen_expr-a.ensures c.keep-v.ensures.0 c.keep-v.ensures.1 c.past-p.ensures.0 (c.gen_expr-a.auto.0, c.gen_expr-a.auto.1.0)
 
 pub gen_args-shape_of-code-else-p-e : goal.gen_args-shape_of-code-else-p-e
 gen_args-shape_of-code-else-p-e t c = c.loop-v.invariant.room.0
@@ -197,7 +197,7 @@ pub gen_args-shape_of-bytes-else-p-e : goal.gen_args-shape_of-bytes-else-p-e
 gen_args-shape_of-bytes-else-p-e t c = c.loop-v.invariant.room.1
 
 pub gen_args-returns-else-p-e : goal.gen_args-returns-else-p-e
-gen_args-returns-else-p-e t c = gather_end _ _ _ _ c.loop-v.invariant (args_end c.args.rules _ _ _ _ _ _ _ _ (ltb-false _ _ c.if-p-e.false))
+gen_args-returns-else-p-e t c = gather_end _ _ _ _ c.loop-v.invariant (args_end c.args.rules _ _ _ _ _ _ _ _ c.if-p-e.false)
 
 pub gen_args-shape_of-code-after-loop-v : goal.gen_args-shape_of-code-after-loop-v
 gen_args-shape_of-code-after-loop-v t c = c.loop-v.invariant.room.0
@@ -287,7 +287,7 @@ pub gen_inits-loop-v-smaller : goal.gen_inits-loop-v-smaller
 gen_inits-loop-v-smaller t c = omega (arith, c.loop-v-test.true, ap (λ (x : Several). x.count) c.keep-v.ensures.0)
 
 pub gen_inits-loop-v-preserved : goal.gen_inits-loop-v-preserved
-gen_inits-loop-v-preserved t c = inits_go c.args.img.now _ _ _ c.args.rules c.args.scope.now c.args.d c.args.e c.loop-v.invariant c.loop-v-test.true (ltb-true _ _ c.if-p-e.true) c.gen_expr-a.ensures (rw c.body.ensures.0 at c.past-q.ensures.0) c.keep-v.ensures.0 c.keep-v.ensures.1 c.past-p.ensures.0 (c.gen_expr-a.auto.0, c.gen_expr-a.auto.1.0)
+gen_inits-loop-v-preserved t c = inits_go c.args.img.now _ _ _ c.args.rules c.args.scope.now c.args.d c.args.e c.loop-v.invariant c.loop-v-test.true c.if-p-e.true c.gen_expr-a.ensures (rw c.body.ensures.0 at c.past-q.ensures.0) c.keep-v.ensures.0 c.keep-v.ensures.1 c.past-p.ensures.0 (c.gen_expr-a.auto.0, c.gen_expr-a.auto.1.0)
 
 pub gen_inits-shape_of-code-else-p-e : goal.gen_inits-shape_of-code-else-p-e
 gen_inits-shape_of-code-else-p-e t c = c.loop-v.invariant.room.0
@@ -296,7 +296,7 @@ pub gen_inits-shape_of-bytes-else-p-e : goal.gen_inits-shape_of-bytes-else-p-e
 gen_inits-shape_of-bytes-else-p-e t c = c.loop-v.invariant.room.1
 
 pub gen_inits-returns-else-p-e : goal.gen_inits-returns-else-p-e
-gen_inits-returns-else-p-e t c = gather_end _ _ _ _ c.loop-v.invariant (inits_end c.args.rules _ _ _ _ _ _ _ _ (ltb-false _ _ c.if-p-e.false))
+gen_inits-returns-else-p-e t c = gather_end _ _ _ _ c.loop-v.invariant (inits_end c.args.rules _ _ _ _ _ _ _ _ c.if-p-e.false)
 
 pub gen_inits-shape_of-code-after-loop-v : goal.gen_inits-shape_of-code-after-loop-v
 gen_inits-shape_of-code-after-loop-v t c = c.loop-v.invariant.room.0

@@ -5,33 +5,13 @@ use native.Mathlib.Omega.{arith}
 use Rattle.rules.specs.Check.{ended}
 use Rattle.image.specs.Rows.{off}
 use Rattle.image.specs.Within.{Parts}
-use Rattle.image.proofs.Turns.{Turn, turn_start, passed_is, first_small}
+use Rattle.image.proofs.Turns.{turn_start, passed_is, first_small}
 use Rattle.image.proofs.Loop.{turn_ended, turn_short, turn_refused, turn_own, turn_leaf, turn_tail, turn_in, turn_past}
-use borrow.Author.Rules.{rules}
-use Prim.Native.Nat.{ℕ, ◌+◌, ◌-◌, ◌%◌, ◌<◌}
-use borrow.Fn.Kinds.{In}
-use borrow.Fn.PlainCycle.{Measures, is, falls, and}
-use Rattle.image.proofs.check_record.Kinds as check-record-kinds
-use Rattle.image.proofs.+check_record.{statement}
+use Prim.Native.Nat.{ℕ, ◌+◌, ◌-◌, ◌%◌}
 use Rattle.image.proofs.+check_record.Goals as goal
 
-abbrev μ-check-record : Measures 2 check-record-kinds.ps ℕ
-μ-check-record κs a = a.1.1.1.1.0
-
-abbrev check-record-at : ℕ → In 2 check-record-kinds.ps
-check-record-at t =
-    and 2 check-record-kinds.ps (is 2 check-record-kinds.ps μ-check-record t) check-record.Pre
-
-abbrev check-record-below : ℕ → In 2 check-record-kinds.ps
-check-record-below t =
-    and
-    2
-    check-record-kinds.ps
-    (falls 2 check-record-kinds.ps ◌<◌ μ-check-record t)
-    check-record.Pre
-
 pub loop-p-init : goal.loop-p-init
-loop-p-init t c = turn_start c.args.t.now c.args.s.now c.args.from c.args.end c.args.levels c.args.dues c.args.vars c.requires.1.4 (omega arith) (omega arith) (omega arith)
+loop-p-init t c = turn_start c.args.t.now c.args.s.now c.args.from c.args.end c.args.levels c.args.dues c.args.vars c.requires.4 (omega arith) (omega arith) (omega arith)
 
 pub returns-then-is_ended : goal.returns-then-is_ended
 returns-then-is_ended t c = turn_ended c.args.t.now c.args.s.now c.args.from c.args.end c.args.levels c.args.dues c.args.vars c.loop-p.p c.loop-p.left c.loop-p.w c.loop-p.n c.loop-p.invariant (sym c.is_ended.ensures ∙ c.if-is_ended.true)

@@ -12,7 +12,6 @@ use Rattle.image.proofs.Header.{framed}
 use Rattle.image.proofs.Table.{right_is}
 use Rattle.image.proofs.Loop.{told_number, told_count}
 use Rattle.image.proofs.Whole.{check_long, check_unframed, check_other, check_fault, check_left, check_sound}
-use borrow.Author.Rules.{rules}
 use Rattle.image.proofs.check.Goals as goal
 
 pub returns-then-image-gt65536 : goal.returns-then-image-gt65536

@@ -3,7 +3,6 @@ use native.Mathlib.Omega.{arith}
 use borrow.Author.Tests.{eq-eqb, ne_eqb}
 use Rattle.rules.specs.Bytes.{pick}
 use Rattle.image.specs.Within.{fault_of}
-use borrow.Author.Rules.{rules}
 use Rattle.image.proofs.fault.Goals as goal
 
 pub returns-then-d-eq0 : goal.returns-then-d-eq0

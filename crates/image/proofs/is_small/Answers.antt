@@ -3,7 +3,6 @@ use Prim.Native.Nat.{◌-◌}
 use native.Mathlib.Omega.{arith}
 use borrow.Author.Tests.{eq-eqb, ne_eqb}
 use Rattle.rules.specs.Check.{small}
-use borrow.Author.Rules.{rules}
 use Rattle.image.proofs.is_small.Goals as goal
 
 pub returns-then-to-from-eq1 : goal.returns-then-to-from-eq1

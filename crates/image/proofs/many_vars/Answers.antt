@@ -3,7 +3,6 @@ use mathlib.Core.Path.{◌∙◌}
 use borrow.Author.Tests.{le-leb, lt-leb}
 use Rattle.rules.specs.Check.{counts}
 use Rattle.image.proofs.Header.{and_false, and_true}
-use borrow.Author.Rules.{rules}
 use Rattle.image.proofs.many_vars.Goals as goal
 
 pub returns-then-vars-lt512 : goal.returns-then-vars-lt512

@@ -2,7 +2,6 @@
 use Prim.Native.Nat.{◌-◌}
 use native.Mathlib.Omega.{arith}
 use borrow.Author.Tests.{lt-ltb, le-ltb}
-use borrow.Author.Rules.{rules}
 use Rattle.rules.specs.Check.{unframed}
 use Rattle.rules.specs.Bytes.{le32}
 use Rattle.image.proofs.no_frame.Goals as goal

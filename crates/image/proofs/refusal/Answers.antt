@@ -3,7 +3,6 @@ use Prim.Native.Nat.{◌+◌}
 use borrow.Author.Tests.{eq-eqb, ne_eqb, lt-ltb, le-ltb}
 use Rattle.rules.specs.Bytes.{pick}
 use Rattle.image.specs.Within.{short, first_of}
-use borrow.Author.Rules.{rules}
 use Rattle.image.proofs.refusal.Goals as goal
 
 pub returns-then-size-lt2 : goal.returns-then-size-lt2

@@ -1,7 +1,6 @@
 -- `image::too_many`: each return by its tests.
 use borrow.Author.Tests.{le-leb, lt-leb, lt-ltb, le-ltb}
 use Rattle.image.specs.Rows.{full}
-use borrow.Author.Rules.{rules}
 use Rattle.image.proofs.too_many.Goals as goal
 
 pub returns-then-dues-lt-PARTS : goal.returns-then-dues-lt-PARTS

@@ -1,5 +1,5 @@
 -- `lines::line` meets its contract.
-use Rattle.std.proofs.Common.{arith, rules}
+use Rattle.std.proofs.Common.{arith}
 use Rattle.lines.specs.Lengths.{length_line, counted}
 use Rattle.lines.proofs.line.Goals as goal
 

@@ -1,7 +1,6 @@
 -- `lines::lines` meets its contract: the lines of the first k words lie from the start on.
-use Rattle.std.proofs.Common.{◌-◌, ◌/◌, ◌≤◌, length, arith, rules, ltb-false, ltb-true}
-use Rattle.rules.specs.Lines.{lines_of}
-use Rattle.pieces.specs.Lays.{Lays, lays_length}
+use Rattle.std.proofs.Common.{arith}
+use Rattle.pieces.specs.Lays.{lays_length}
 use Rattle.lines.specs.Lengths.{length_lines, none_yet, more, whole}
 use Rattle.lines.proofs.lines.Goals as goal
 
@@ -9,23 +8,23 @@ pub loop-k-init : goal.loop-k-init
 loop-k-init c = (omega arith, (omega arith, none_yet _ _ _))
 
 pub put_line-n-requires : goal.put_line-n-requires
-put_line-n-requires c =     let d = c.before.before.before.before.before in
-    let a = d.before.before.before.args in
-    omega (arith, lays_length d.loop.invariant.1.1, d.loop.invariant.1.1.past, length_lines a.first a.words.now d.loop.k, ltb-true d.loop.k (length a.out.now / 40) c.if-k-room.true)
+put_line-n-requires c = omega (
+  arith,
+  lays_length c.loop-k.invariant.1.1,
+  c.loop-k.invariant.1.1.past,
+  length_lines c.args.first c.args.words.now c.loop-k.k,
+  c.if-k-room.true,
+)
 
 pub loop-k-preserved : goal.loop-k-preserved
-loop-k-preserved c =     let e = c.before.before.before.before.before in
-    let d = e.before.before.before in
-    let room = ltb-true d.loop.k (length d.before.before.before.args.out.now / 40) e.before.if1.true in
-    (omega (arith, e.before.before.loop-test.true), (omega (arith, room), more _ _ _ e.wrapping-add-u64.ensures c.eight_in.ensures d.loop.invariant.1.1 c.put_line-n.ensures))
+loop-k-preserved c = (omega (arith, c.loop-k-test.true), (omega (arith, c.if-k-room.true), more _ _ _ c.wrapping_add_u64-i.ensures.value c.eight_in.ensures c.loop-k.invariant.1.1 c.put_line-n.ensures))
 
 pub shape_of-out-else-k-room : goal.shape_of-out-else-k-room
 shape_of-out-else-k-room c = lays_length c.loop-k.invariant.1.1
 
 pub returns-else-k-room : goal.returns-else-k-room
-returns-else-k-room c =     let d = c.before.before in
-    let room = ltb-false d.loop.k (length d.before.before.before.args.out.now / 40) c.if-k-room.false in
-    whole _ _ _ (omega (arith, d.loop.invariant.0, d.loop.invariant.1.0, c.loop-k-test.true, room)) d.loop.invariant.1.1
+returns-else-k-room c =
+    whole _ _ _ (omega (arith, c.loop-k.invariant.0, c.loop-k.invariant.1.0, c.loop-k-test.true, c.if-k-room.false)) c.loop-k.invariant.1.1
 
 pub shape_of-out-after-loop-k : goal.shape_of-out-after-loop-k
 shape_of-out-after-loop-k c = lays_length c.loop-k.invariant.1.1

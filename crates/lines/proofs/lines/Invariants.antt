@@ -1,8 +1,7 @@
 -- `lines::lines` meets its contract: the lines of the first k words lie from the start on.
-use Rattle.std.proofs.Common.{◌-◌, ◌/◌, ◌≤◌, length, arith, rules, ltb-false, ltb-true}
+use Rattle.std.proofs.Common.{◌-◌, ◌≤◌}
 use Rattle.rules.specs.Lines.{lines_of}
-use Rattle.pieces.specs.Lays.{Lays, lays_length}
-use Rattle.lines.specs.Lengths.{length_lines, none_yet, more, whole}
+use Rattle.pieces.specs.Lays.{Lays}
 use Rattle.lines.proofs.lines.Given as goal
 
 abbrev pub invariant-loop-k : goal.invariant-loop-k

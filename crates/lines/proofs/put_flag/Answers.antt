@@ -1,5 +1,5 @@
 -- `lines::put_flag` meets its contract.
-use Rattle.std.proofs.Common.{sym, ◌∙◌, rules}
+use Rattle.std.proofs.Common.{sym, ◌∙◌}
 use Rattle.rules.specs.Texts.{bytes}
 use Rattle.lines.specs.Lengths.{no_flag, some_flag}
 use Rattle.lines.proofs.put_flag.Goals as goal

@@ -3,7 +3,6 @@ use mathlib.Core.Path.{refl}
 use borrow.Author.Tests.{lt-ltb, le-ltb}
 use Rattle.rules.specs.Bytes.{pick}
 use Rattle.link.specs.Linked.{distance_to}
-use borrow.Author.Rules.{rules}
 use Rattle.link.proofs.distance.Goals as goal
 
 pub returns-then-function-firsts : goal.returns-then-function-firsts

@@ -1,13 +1,12 @@
 -- `link::link` meets its contract, by the laws of Turns.
 use mathlib.Core.Path.{refl, ap, ◌∙◌}
 use mathlib.Core.List.{List}
-use Prim.Native.Nat.{ℕ, ◌-◌}
+use Prim.Native.Nat.{ℕ}
 use native.Mathlib.Omega.{arith}
 use lib.ListN.{length-set}
 use Rattle.rules.specs.Lent.{over}
 use Rattle.link.specs.Linked.{linked_from}
-use Rattle.link.proofs.Turns.{Linking, long, more, skip, taken}
-use borrow.Author.Rules.{rules}
+use Rattle.link.proofs.Turns.{long, more, skip, taken}
 use Rattle.link.proofs.link.Goals as goal
 
 pub loop-i-init : goal.loop-i-init

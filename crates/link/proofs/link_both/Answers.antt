@@ -1,6 +1,5 @@
 -- `link::link_both` meets its contract.
 use native.Mathlib.Omega.{arith}
-use borrow.Author.Rules.{rules}
 use Rattle.link.proofs.link_both.Goals as goal
 
 pub link_bytes-requires : goal.link_bytes-requires

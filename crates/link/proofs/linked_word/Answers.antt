@@ -5,7 +5,6 @@ use native.Mathlib.Omega.{arith}
 use Rattle.isa.specs.Ruled.{is_opcode, no_opcode}
 use Rattle.rules.specs.Bytes.{pick}
 use Rattle.link.specs.Linked.{linked}
-use borrow.Author.Rules.{rules}
 use Rattle.link.proofs.linked_word.Goals as goal
 
 pub returns-then-fact : goal.returns-then-fact

@@ -1,17 +1,14 @@
 -- `link::next_open` meets its contract: in both loops the words so far are closed.
-use Prim.Native.Nat.{◌-◌}
 use native.Mathlib.Omega.{arith}
-use borrow.Author.Tests.{not-true}
 use Rattle.isa.specs.Ruled.{is_opcode}
-use Rattle.link.specs.Closed.{Shut, Closed, none_yet, pass, next}
-use borrow.Author.Rules.{rules}
+use Rattle.link.specs.Closed.{none_yet, pass, next}
 use Rattle.link.proofs.next_open.Goals as goal
 
 pub loop-i-init : goal.loop-i-init
 loop-i-init c = none_yet c.requires.1.0
 
 pub loop-i-preserved : goal.loop-i-preserved
-loop-i-preserved c = pass c.loop-i.invariant 16 (omega arith) (c.some_open.ensures (not-true _ c.if-not-some_open.true))
+loop-i-preserved c = pass c.loop-i.invariant 16 (omega arith) (c.some_open.ensures c.if-not-some_open.true)
 
 pub loop-i-2-init : goal.loop-i-2-init
 loop-i-2-init c = c.loop-i.invariant

@@ -1,17 +1,15 @@
 -- `link::next_open_in` meets its contract: in both loops the words so far are closed.
-use Prim.Native.Nat.{◌-◌, ◌*◌}
+use Prim.Native.Nat.{◌*◌}
 use native.Mathlib.Omega.{arith}
-use borrow.Author.Tests.{not-true}
 use Rattle.isa.specs.Ruled.{is_opcode}
-use Rattle.link.specs.Closed.{ShutIn, Closed, none_yet, pass, next}
-use borrow.Author.Rules.{rules}
+use Rattle.link.specs.Closed.{none_yet, pass, next}
 use Rattle.link.proofs.next_open_in.Goals as goal
 
 pub loop-i-init : goal.loop-i-init
 loop-i-init c = none_yet c.requires.1.0
 
 pub loop-i-preserved : goal.loop-i-preserved
-loop-i-preserved c = pass c.loop-i.invariant 16 (omega arith) (c.some_open_in.ensures (not-true _ c.if-not-some_open_in.true))
+loop-i-preserved c = pass c.loop-i.invariant 16 (omega arith) (c.some_open_in.ensures c.if-not-some_open_in.true)
 
 pub loop-i-2-init : goal.loop-i-2-init
 loop-i-2-init c = c.loop-i.invariant

@@ -1,10 +1,6 @@
 -- `link::next_open_in` meets its contract: in both loops the words so far are closed.
-use Prim.Native.Nat.{◌-◌, ◌*◌}
-use native.Mathlib.Omega.{arith}
-use borrow.Author.Tests.{not-true}
-use Rattle.isa.specs.Ruled.{is_opcode}
-use Rattle.link.specs.Closed.{ShutIn, Closed, none_yet, pass, next}
-use borrow.Author.Rules.{rules}
+use Prim.Native.Nat.{◌-◌}
+use Rattle.link.specs.Closed.{ShutIn, Closed}
 use Rattle.link.proofs.next_open_in.Given as goal
 
 abbrev pub invariant-loop-i : goal.invariant-loop-i

@@ -1,14 +1,8 @@
 -- `link::some_open` meets its contract: so far no word that was looked at is open, or `any` tells of one.
-use mathlib.Core.Path.{◌≡◌, sym, ◌∙◌}
-use mathlib.Core.Bool.{false, true≢false}
-use mathlib.Core.Logic.{⊎_elim}
+use mathlib.Core.Path.{◌≡◌}
+use mathlib.Core.Bool.{false}
 use Prim.Native.Nat.{◌-◌, ◌≤◌}
-use native.Mathlib.Omega.{arith}
-use Rattle.isa.specs.Ruled.{is_opcode}
 use Rattle.link.specs.Closed.{Shut, Each}
-use borrow.Author.Count.{below_more}
-use borrow.Author.Tests.{not-false}
-use borrow.Author.Rules.{rules}
 use Rattle.link.proofs.some_open.Given as goal
 
 abbrev pub invariant-loop-k : goal.invariant-loop-k

@@ -3,7 +3,6 @@ use Rattle.lookup.specs.Answers.{fault_of, got_of, typed_of}
 use Rattle.lookup.specs.Results.{known_none, known_some}
 use Rattle.rules.specs.Analyse.{expr}
 use mathlib.Core.Path.{◌∙◌, ap, sym}
-use borrow.Author.Rules.{rules}
 use Rattle.lookup.proofs.analyze_ident.Goals as goal
 
 pub returns-in-Type : goal.returns-in-Type

@@ -1,7 +1,6 @@
 -- apply_to meets its contract.
 use Rattle.lookup.specs.Answers.{fault_of, ret_of, sig_at, typed_of}
 use Rattle.rules.specs.Analyse.{applied, params_of}
-use borrow.Author.Rules.{rules}
 use Rattle.lookup.proofs.apply_to.Goals as goal
 
 pub returns-in-Undefined : goal.returns-in-Undefined

@@ -1,7 +1,6 @@
 -- both meets its contract.
 use Rattle.lookup.specs.Answers.{fault_of, typed_of}
 use Rattle.lookup.specs.Results.{unless_bad, unless_ok}
-use borrow.Author.Rules.{rules}
 use Rattle.lookup.proofs.both.Goals as goal
 
 pub returns-then-clashing : goal.returns-then-clashing

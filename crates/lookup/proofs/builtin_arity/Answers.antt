@@ -3,7 +3,6 @@ use Rattle.lookup.specs.Answers.{where_of}
 use Rattle.rules.specs.Builtins.{arity, builtin}
 use Rattle.rules.specs.Bytes.{pick}
 use Rattle.rules.specs.Tables.{mapped}
-use borrow.Author.Rules.{rules}
 use Rattle.lookup.proofs.builtin_arity.Goals as goal
 
 pub returns-then-same : goal.returns-then-same

@@ -8,7 +8,6 @@ use Rattle.tables.specs.Carried.{function_is}
 use Rattle.tables.specs.Listed.{place_of}
 use Rattle.tables.specs.declared.Found.{Found}
 use mathlib.Core.Path.{◌∙◌, ap, sym}
-use borrow.Author.Rules.{rules}
 use Rattle.lookup.proofs.callee_named.Goals as goal
 
 pub function_named-f-requires : goal.function_named-f-requires

@@ -1,7 +1,6 @@
 -- cell meets its contract.
 use lib.ListN.{get_or-eq_default}
 use mathlib.Core.Path.{sym}
-use borrow.Author.Rules.{rules}
 use Rattle.lookup.proofs.cell.Goals as goal
 
 pub returns-else-i-a : goal.returns-else-i-a

@@ -1,7 +1,6 @@
 -- clashing meets its contract.
 use Rattle.lookup.proofs.Sorts.{clash_left, clash_right, clash_same, clash_yes}
 use Rattle.lookup.specs.Answers.{ty_of}
-use borrow.Author.Rules.{rules}
 use Rattle.lookup.proofs.clashing.Goals as goal
 
 pub returns-then-same_type : goal.returns-then-same_type

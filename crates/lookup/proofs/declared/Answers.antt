@@ -1,5 +1,4 @@
 -- declared meets its contract.
-use borrow.Author.Rules.{rules}
 use Rattle.lookup.proofs.declared.Goals as goal
 
 pub returns : goal.returns

@@ -1,7 +1,6 @@
 -- due_count meets its contract.
 use Rattle.lookup.proofs.Signs.{count_fields, count_repeated}
 use Rattle.lookup.specs.Answers.{due_of}
-use borrow.Author.Rules.{rules}
 use Rattle.lookup.proofs.due_count.Goals as goal
 
 pub returns-in-Words : goal.returns-in-Words

@@ -2,7 +2,6 @@
 use Rattle.lookup.proofs.Signs.{user_dues}
 use Rattle.lookup.specs.Answers.{due_of, sig_at}
 use Rattle.rules.specs.Analyse.{params_of, repeated}
-use borrow.Author.Rules.{rules}
 use Rattle.lookup.proofs.dues.Goals as goal
 
 pub returns-in-Builtin : goal.returns-in-Builtin

@@ -5,7 +5,6 @@ use Rattle.rules.specs.Layout.{declared}
 use Rattle.before.specs.Meant.{bad_ok}
 use Rattle.notes.specs.Notes.{spot_in_lem, marked}
 use Rattle.lookup.specs.Answers.{fault_of, ty_of, typed_of}
-use borrow.Author.Rules.{rules}
 use Rattle.lookup.proofs.field_of.Goals as goal
 
 pub returns-in-Struct : goal.returns-in-Struct

@@ -1,11 +1,6 @@
 -- field_spot meets its contract.
 use Prim.Native.Nat.{◌-◌}
-use mathlib.Core.Logic.{⊎_elim}
-use native.Mathlib.Omega.{arith}
-use borrow.Author.Tests.{ltb-true, ltb-false}
-use Rattle.lookup.specs.Places.{places_zero, places_end}
-use Rattle.lookup.proofs.Spots.{Walk, walk_first, walk_on, walked_at, walked_none}
-use borrow.Author.Rules.{rules}
+use Rattle.lookup.proofs.Spots.{Walk}
 use Rattle.lookup.proofs.field_spot.Given as goal
 
 abbrev pub invariant-loop-n : goal.invariant-loop-n

@@ -6,7 +6,6 @@ use Rattle.rules.specs.Tables.{mapped}
 use Rattle.lookup.specs.Answers.{got_of}
 use Rattle.lookup.specs.Fields.{last_of}
 use Rattle.lookup.proofs.Signs.{field_last}
-use borrow.Author.Rules.{rules}
 use Rattle.lookup.proofs.field_type.Goals as goal
 
 pub returns-in-At : goal.returns-in-At

@@ -1,13 +1,10 @@
 -- find_local meets its contract.
 use mathlib.Core.Option.{some}
-use mathlib.Core.Path.{◌∙◌, ◌≡◌, ap, refl, sym}
-use Prim.Native.Nat.{◌≤◌}
+use mathlib.Core.Path.{◌∙◌, ap, refl, sym}
 use native.Mathlib.Omega.{arith}
 use Rattle.rules.specs.Bytes.{name_at}
-use Rattle.rules.specs.Types.{find}
-use Rattle.lookup.specs.Answers.{env_of, got_of}
+use Rattle.lookup.specs.Answers.{got_of}
 use Rattle.lookup.proofs.Scopes.{find_hit, find_miss, find_none, find_other}
-use borrow.Author.Rules.{rules}
 use Rattle.lookup.proofs.find_local.Goals as goal
 
 pub loop-k-init : goal.loop-k-init

@@ -6,7 +6,6 @@ use Rattle.rules.specs.Analyse.{repeated}
 use Rattle.rules.specs.Tables.{nth}
 use mathlib.Core.Option.{some}
 use mathlib.Core.Path.{ap}
-use borrow.Author.Rules.{rules}
 use Rattle.lookup.proofs.first_due.Goals as goal
 
 pub returns-then-k-eq0 : goal.returns-then-k-eq0

@@ -5,7 +5,6 @@ use Rattle.rules.specs.Analyse.{fits, params_of}
 use Rattle.rules.specs.Bytes.{name_at}
 use Rattle.rules.specs.Refusal.{ok}
 use mathlib.Core.Path.{ap}
-use borrow.Author.Rules.{rules}
 use Rattle.lookup.proofs.fit_call.Goals as goal
 
 pub returns-in-Fits : goal.returns-in-Fits

@@ -1,7 +1,6 @@
 -- init_clashing meets its contract.
 use Rattle.lookup.proofs.Sorts.{init_same, init_unknown, init_yes}
 use Rattle.lookup.specs.Answers.{ty_of}
-use borrow.Author.Rules.{rules}
 use Rattle.lookup.proofs.init_clashing.Goals as goal
 
 pub returns-then-same_type : goal.returns-then-same_type

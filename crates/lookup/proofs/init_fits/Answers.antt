@@ -3,7 +3,6 @@ use Rattle.lookup.proofs.Fits.{init_missing, init_there}
 use Rattle.lookup.specs.Answers.{checked_of, fault_of, got_of}
 use Rattle.lookup.specs.Results.{unless_bad, unless_ok}
 use mathlib.Core.Path.{◌∙◌, ap, sym}
-use borrow.Author.Rules.{rules}
 use Rattle.lookup.proofs.init_fits.Goals as goal
 
 pub returns-then-init_clashing : goal.returns-then-init_clashing

@@ -2,7 +2,6 @@
 use Rattle.lookup.proofs.Signs.{clash_at, clash_past}
 use Rattle.lookup.specs.Answers.{got_of}
 use mathlib.Core.Path.{◌∙◌, ap, sym}
-use borrow.Author.Rules.{rules}
 use Rattle.lookup.proofs.misfits.Goals as goal
 
 pub returns-in-Type : goal.returns-in-Type

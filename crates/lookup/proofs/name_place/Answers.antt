@@ -2,7 +2,6 @@
 use Rattle.lookup.proofs.Sorts.{name_end}
 use Rattle.lookup.specs.Answers.{ty_of}
 use Rattle.rules.specs.Types.{name_of}
-use borrow.Author.Rules.{rules}
 use Rattle.lookup.proofs.name_place.Goals as goal
 
 pub returns-in-Struct : goal.returns-in-Struct

@@ -3,7 +3,6 @@ use Rattle.lookup.proofs.Signs.{repeated_rest}
 use Rattle.lookup.specs.Answers.{due_of}
 use Rattle.lookup.specs.Places.{places_end, places_more, places_zero}
 use Rattle.rules.specs.Analyse.{repeated}
-use borrow.Author.Rules.{rules}
 use Rattle.lookup.proofs.next_due.Goals as goal
 
 pub returns-then-k-eq0 : goal.returns-then-k-eq0

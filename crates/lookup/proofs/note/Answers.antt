@@ -2,7 +2,6 @@
 use Rattle.lookup.specs.Answers.{misfit_of, noted}
 use Rattle.rules.specs.Bytes.{pick}
 use Rattle.rules.specs.Tables.{or_else}
-use borrow.Author.Rules.{rules}
 use Rattle.lookup.proofs.note.Goals as goal
 
 pub returns-then-misfits : goal.returns-then-misfits

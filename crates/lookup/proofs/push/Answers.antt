@@ -3,7 +3,6 @@ use mathlib.Core.Path.{◌∙◌}
 use native.Mathlib.Omega.{arith}
 use lib.ListN.{length-set}
 use Rattle.lookup.proofs.Scopes.{type_fits, pushed}
-use borrow.Author.Rules.{rules}
 use Rattle.lookup.proofs.push.Goals as goal
 
 pub overflow_mul-b : goal.overflow_mul-b

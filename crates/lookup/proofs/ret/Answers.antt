@@ -1,7 +1,6 @@
 -- ret meets its contract.
 use Rattle.lookup.specs.Answers.{ret_of, sig_at, ty_of}
 use Rattle.rules.specs.Analyse.{sig_of}
-use borrow.Author.Rules.{rules}
 use Rattle.lookup.proofs.ret.Goals as goal
 
 pub returns-in-Builtin : goal.returns-in-Builtin

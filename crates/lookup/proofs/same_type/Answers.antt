@@ -2,7 +2,6 @@
 use Rattle.lookup.proofs.Sorts.{other_tags, low_tags, same_tags}
 use Rattle.lookup.specs.Answers.{ty_of}
 use mathlib.Core.Path.{◌∙◌}
-use borrow.Author.Rules.{rules}
 use Rattle.lookup.proofs.same_type.Goals as goal
 
 pub returns-then-k-tag : goal.returns-then-k-tag

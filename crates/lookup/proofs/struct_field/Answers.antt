@@ -15,7 +15,6 @@ use Rattle.lookup.specs.Results.{known_none, known_some}
 use Rattle.lookup.proofs.Fits.{field_declared, field_undeclared}
 use Rattle.lookup.proofs.Signs.{field_last}
 use Rattle.lookup.proofs.Spots.{spot_in, marked_at, marked_none}
-use borrow.Author.Rules.{rules}
 use Rattle.lookup.proofs.struct_field.Goals as goal
 
 pub struct_named-d-requires : goal.struct_named-d-requires

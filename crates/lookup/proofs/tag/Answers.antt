@@ -1,7 +1,6 @@
 -- tag meets its contract.
 use Rattle.lookup.specs.Answers.{ty_of}
 use Rattle.rules.specs.Types.{tag_of}
-use borrow.Author.Rules.{rules}
 use Rattle.lookup.proofs.tag.Goals as goal
 
 pub returns-in-U64 : goal.returns-in-U64

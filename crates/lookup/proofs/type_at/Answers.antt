@@ -2,7 +2,6 @@
 use Rattle.lookup.specs.Answers.{ty_of}
 use Rattle.rules.specs.Bytes.{pick}
 use Rattle.rules.specs.Types.{type_named}
-use borrow.Author.Rules.{rules}
 use Rattle.lookup.proofs.type_at.Goals as goal
 
 pub returns-then-is_name : goal.returns-then-is_name

@@ -2,7 +2,6 @@
 use Rattle.lookup.proofs.Signs.{gives_none, gives_type}
 use Rattle.lookup.specs.Answers.{ty_of}
 use mathlib.Core.Path.{◌∙◌}
-use borrow.Author.Rules.{rules}
 use Rattle.lookup.proofs.user_ret.Goals as goal
 
 pub returns-then-name-past : goal.returns-then-name-past

@@ -1,7 +1,6 @@
 -- `pieces::glyph` meets its contract.
 use mathlib.Core.Path.{sym}
 use Rattle.pieces.specs.Hex.{glyph_low, glyph_high}
-use borrow.Author.Rules.{rules}
 use Rattle.pieces.proofs.glyph.Goals as goal
 
 pub returns-then-d-lt10 : goal.returns-then-d-lt10

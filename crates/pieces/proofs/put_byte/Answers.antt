@@ -1,7 +1,6 @@
 -- `pieces::put_byte` meets its contract.
 use mathlib.Core.Path.{refl, sym}
 use Rattle.lent.specs.Over.{over_at_one}
-use borrow.Author.Rules.{rules}
 use Rattle.pieces.proofs.put_byte.Goals as goal
 
 pub returns : goal.returns

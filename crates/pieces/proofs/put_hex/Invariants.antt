@@ -1,7 +1,5 @@
 -- `pieces::put_hex` meets its contract: from the last digit to the first.
-use native.Mathlib.Omega.{arith}
-use Rattle.pieces.specs.Hex.{Hexing, hexing_start, hexing_more, hexing_length, hexing_end}
-use borrow.Author.Rules.{rules}
+use Rattle.pieces.specs.Hex.{Hexing}
 use Rattle.pieces.proofs.put_hex.Given as goal
 
 abbrev pub invariant-loop-i : goal.invariant-loop-i

@@ -1,6 +1,5 @@
 -- `pieces::put_number` meets its contract.
 use Rattle.rules.specs.Texts.{decimal}
-use borrow.Author.Rules.{rules}
 use Rattle.pieces.proofs.put_number.Goals as goal
 
 pub put_digits-requires : goal.put_digits-requires

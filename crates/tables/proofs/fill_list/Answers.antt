@@ -11,9 +11,10 @@ use Rattle.records.specs.Places.{places_zero, places_end, places_more}
 use Rattle.tables.proofs.Fill.{Filled, stored, begin, put, done}
 use borrow.Author.Rules.{rules}
 use Rattle.tables.proofs.fill_list.Goals as goal
+use Rattle.tables.proofs.fill_list.Goals.{then-loop-n-test+else-p-end, else-loop-n-test}
 
 pub loop-n-init : goal.loop-n-init
-loop-n-init c = (omega arith, let z : c.args.most - 0 ≡ c.args.most = omega arith in rw (z, c.body-p.ensures.0, c.past-end.ensures.0) (begin c.args.img.now c.clear_heads.new.0 c.args.base (places_in c.args.most c.args.img.now c.args.l) c.clear_heads.ensures.heads))
+loop-n-init c = (omega arith, let z : c.args.most - 0 ≡ c.args.most = omega arith in rw (z, c.body-p.ensures.0, c.past-end.ensures.0) (begin c.args.img.now c.clear_heads.new.t c.args.base (places_in c.args.most c.args.img.now c.args.l) c.clear_heads.ensures.heads))
 
 pub bounds-t-head : goal.bounds-t-head
 bounds-t-head c = omega (arith, c.loop-n.invariant.1.above.size, c.clear_heads.ensures.above.size)
@@ -34,10 +35,10 @@ pub loop-n-preserved : goal.loop-n-preserved
 loop-n-preserved c =     let img = c.args.img.now in
     let p = c.loop-n.p in
     let fewer : c.args.most - (c.loop-n.n + 1) ≡ c.args.most - c.loop-n.n - 1 = omega arith in
-    let before = ltb-true _ _ c.if-p-end.true in (
+    let before = c.if-p-end.true in (
       omega arith,
       rw (c.past-p.ensures.0, c.name_key-key.ensures, c.body.ensures.0, fewer)
-          (put img c.clear_heads.new.0 c.args.base (places_in c.args.most img c.args.l) c.loop-n.t _ _ c.loop-n.n p _
+          (put img c.clear_heads.new.t c.args.base (places_in c.args.most img c.args.l) c.loop-n.t _ _ c.loop-n.n p _
           (places_more img (c.args.most - c.loop-n.n) p c.past-end.result (λ z. omega arith) before)
           c.loop-n.invariant.1
           (stored img c.loop-n.t (c.args.base + 62 + c.loop-n.n) (c.args.base + 1 + key_of (name_in img p) % 61) p c.beside.result (c.loop-n.n + 1)
@@ -52,9 +53,11 @@ pub shape_of-t : goal.shape_of-t
 shape_of-t c = simp length-set (omega (arith, c.loop-n.invariant.1.above.size, c.clear_heads.ensures.above.size))
 
 pub returns : goal.returns
-returns c = done c.args.img.now c.clear_heads.new.0 c.args.base (places_in c.args.most c.args.img.now c.args.l) c.loop-n.t _ c.loop-n.n c.args.t.now
-    (⊎_elim (λ w. places_end c.args.img.now (c.args.most - c.loop-n.n) c.loop-n.p c.past-end.result (ltb-false _ _ w.1.left))
-    (λ w. places_zero c.args.img.now (c.args.most - c.loop-n.n) c.loop-n.p c.past-end.result (omega (arith, w.left))) c.loop-n-test.branch)
+returns c = done c.args.img.now c.clear_heads.new.t c.args.base (places_in c.args.most c.args.img.now c.args.l) c.loop-n.t _ c.loop-n.n c.args.t.now
+    (elim c.loop-n-test.branch [
+      then-loop-n-test+else-p-end w ↦ places_end c.args.img.now (c.args.most - c.loop-n.n) c.loop-n.p c.past-end.result w.if-p-end.false
+    | else-loop-n-test w ↦ places_zero c.args.img.now (c.args.most - c.loop-n.n) c.loop-n.p c.past-end.result (omega (arith, w.loop-n-test.false))
+    ])
     (omega (arith, c.loop-n.invariant.1.above.size, c.clear_heads.ensures.above.size))
     c.clear_heads.ensures.above
     c.loop-n.invariant.1

@@ -16,10 +16,10 @@ returns c =     let img = c.args.img.now in
     record {
       small = c.requires;
       size = search rules;
-      functions = above img c.fill_list-2.new.0 _ 0 444 (functions_in img) (omega arith) c.fill_list-3.ensures.1
-          (above img c.fill_list.new.0 _ 0 318 (functions_in img) (omega arith) c.fill_list-2.ensures.1
+      functions = above img c.fill_list-2.new.t _ 0 444 (functions_in img) (omega arith) c.fill_list-3.ensures.1
+          (above img c.fill_list.new.t _ 0 318 (functions_in img) (omega arith) c.fill_list-2.ensures.1
           (rw (c.past-functions.ensures.0, c.past-structs.ensures.0, c.past-storage.ensures.0, c.body.ensures.0) at c.fill_list.ensures.0));
-      structs = above img c.fill_list-2.new.0 _ 318 444 (structs_in img) (omega arith) c.fill_list-3.ensures.1
+      structs = above img c.fill_list-2.new.t _ 318 444 (structs_in img) (omega arith) c.fill_list-3.ensures.1
           (rw (c.past-structs.ensures.0, c.past-storage.ensures.0, c.body.ensures.0) at c.fill_list-2.ensures.0);
       storage = rw (c.past-storage.ensures.0, c.body.ensures.0) at c.fill_list-3.ensures.0;
     }

@@ -4,7 +4,6 @@ use Rattle.emit.specs.State.{moved}
 use Rattle.emit.specs.Leaves.{took, took_not}
 use mathlib.Core.Path.{ap, ◌∙◌}
 use native.Mathlib.Omega.{arith}
-use borrow.Author.Rules.{rules}
 use Rattle.emit.proofs.St.alloc_reg.Goals as goal
 
 -- src/lib.rt:84:5

@@ -3,7 +3,6 @@ use native.Mathlib.Omega.{arith}
 use borrow.Author.Tests.{eq-eqb, ne_eqb}
 use Rattle.rules.specs.Bytes.{pick}
 use Rattle.image.specs.Rows.{inner}
-use borrow.Author.Rules.{rules}
 use Rattle.image.proofs.grammar.dues_of.Goals as goal
 
 pub overflow_add-result : goal.overflow_add-result

@@ -1,7 +1,6 @@
 -- `image::grammar::is_ended`: each return by its test.
 use borrow.Author.Tests.{eq-eqb, ne_eqb}
 use Rattle.rules.specs.Check.{ended}
-use borrow.Author.Rules.{rules}
 use Rattle.image.proofs.grammar.is_ended.Goals as goal
 
 pub returns-then-p-end : goal.returns-then-p-end

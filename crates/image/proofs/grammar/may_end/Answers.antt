@@ -7,9 +7,6 @@ use Rattle.image.proofs.grammar.may_end.Goals as goal
 pub returns-then-d-ge-STORAGE_FIELD : goal.returns-then-d-ge-STORAGE_FIELD
 returns-then-d-ge-STORAGE_FIELD c = rw (must_listed c.args.d c.if-d-ge-STORAGE_FIELD.true)
 
-pub returns : goal.returns
-returns c = must_alone c.args.d c.if-d-ge-STORAGE_FIELD.false c.if-d-eq-NOTHING.false c.if-d-eq-RETURNED.false
-
 pub returns-then-d-eq-NOTHING : goal.returns-then-d-eq-NOTHING
 unfolding class_of
 returns-then-d-eq-NOTHING c = search rules
@@ -17,3 +14,6 @@ returns-then-d-eq-NOTHING c = search rules
 pub returns-then-d-eq-RETURNED : goal.returns-then-d-eq-RETURNED
 unfolding class_of
 returns-then-d-eq-RETURNED c = search rules
+
+pub returns : goal.returns
+returns c = must_alone c.args.d c.if-d-ge-STORAGE_FIELD.false c.if-d-eq-NOTHING.false c.if-d-eq-RETURNED.false

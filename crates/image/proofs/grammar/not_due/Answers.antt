@@ -2,7 +2,6 @@
 use native.Mathlib.Omega.{arith}
 use borrow.Author.Tests.{le-leb, lt-leb}
 use Rattle.image.specs.Rows.{off}
-use borrow.Author.Rules.{rules}
 use Rattle.image.proofs.grammar.not_due.Goals as goal
 
 pub returns-then-kind-ge72 : goal.returns-then-kind-ge72

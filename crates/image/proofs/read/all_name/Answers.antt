@@ -1,10 +1,7 @@
 -- `image::read::all_name`: the bytes before `p` are of a name; where the few or the eight from there on are not told, one by one decides.
 use mathlib.Core.Path.{sym}
-use Prim.Native.Nat.{◌-◌, ◌≤◌}
 use native.Mathlib.Omega.{arith}
-use Rattle.image.specs.Names.{Named}
 use Rattle.image.proofs.Names.{all_named, eight_more, last_eight}
-use borrow.Author.Rules.{rules}
 use Rattle.image.proofs.read.all_name.Goals as goal
 
 pub returns-then-few_name : goal.returns-then-few_name

@@ -1,9 +1,7 @@
 -- `image::read::each_name`: the bytes from `p` on decide as all of them did at the start.
-use mathlib.Core.Path.{◌≡◌, ◌∙◌, refl, sym, ap}
+use mathlib.Core.Path.{◌≡◌}
 use Prim.Native.Nat.{◌-◌}
-use Rattle.rules.specs.Bytes.{name_byte_lem, name_from}
-use Rattle.image.proofs.Names.{name_end, name_stop, name_more}
-use borrow.Author.Rules.{rules}
+use Rattle.rules.specs.Bytes.{name_from}
 use Rattle.image.proofs.read.each_name.Given as goal
 
 abbrev pub invariant-loop-p : goal.invariant-loop-p

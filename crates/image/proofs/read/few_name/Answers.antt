@@ -6,7 +6,6 @@ use lib.Dec.{T}
 use Rattle.rules.specs.Bytes.{name_byte_lem}
 use Rattle.image.proofs.Swar.{few_room, few}
 use Rattle.image.proofs.Names.{few_named}
-use borrow.Author.Rules.{rules}
 use Rattle.image.proofs.read.few_name.Goals as goal
 
 pub returns-then-w-ne0 : goal.returns-then-w-ne0
@@ -37,4 +36,4 @@ pub overflow_add-d-2 : goal.overflow_add-d-2
 overflow_add-d-2 c = let r = few_room c.wide.result c.wide-2.result c.wide-3.result (c.wide.ensures.1, c.wide-2.ensures.1, c.wide-3.ensures.1) c.if-w-ne0.false in omega arith
 
 pub returns : goal.returns
-returns c e = let n = few c.before.before.before.before.before.wide.result c.before.before.before.wide2.result c.before.wide3.result (c.before.before.before.before.before.wide.ensures.1, c.before.before.before.wide2.ensures.1, c.before.wide3.ensures.1) c.if1.false (eqb-true _ _ e) in few_named c.before.before.before.before.before.before.before.before.args.s.now c.before.before.before.before.before.before.before.before.args.from c.before.before.before.before.before.before.before.before.args.to (omega arith) (omega arith) (ap name_byte_lem (sym c.before.before.before.before.before.wide.ensures.0) ∙ n.0, ap name_byte_lem (sym c.before.before.before.wide2.ensures.0) ∙ n.1, ap name_byte_lem (sym c.before.wide3.ensures.0) ∙ n.2)
+returns c e = let n = few c.wide.result c.wide-2.result c.wide-3.result (c.wide.ensures.1, c.wide-2.ensures.1, c.wide-3.ensures.1) c.if-w-ne0.false (eqb-true _ _ e) in few_named c.args.s.now c.args.from c.args.to (omega arith) (omega arith) (ap name_byte_lem (sym c.wide.ensures.0) ∙ n.0, ap name_byte_lem (sym c.wide-2.ensures.0) ∙ n.1, ap name_byte_lem (sym c.wide-3.ensures.0) ∙ n.2)

@@ -4,7 +4,6 @@ use native.Mathlib.Omega.{arith}
 use borrow.Author.Tests.{eqb-true}
 use lib.Dec.{T}
 use Rattle.image.proofs.Swar.{room, fours}
-use borrow.Author.Rules.{rules}
 use Rattle.image.proofs.read.fours_name.Goals as goal
 
 pub returns-then-w-ne0 : goal.returns-then-w-ne0
@@ -35,4 +34,4 @@ pub overflow_add-d-2 : goal.overflow_add-d-2
 overflow_add-d-2 c = let r = room c.args.s.now c.args.p c.args.q (λ k. omega (arith, c.type_inv.s k)) (rw (← c.word.ensures.0, ← c.word-2.ensures.0) c.if-w-ne0.false) in omega arith
 
 pub returns : goal.returns
-returns c e = fours c.before.before.before.before.args.s.now c.before.before.before.before.args.p c.before.before.before.before.args.q (λ k. omega (arith, c.before.before.before.shared-slice-known.given k)) (rw (← c.before.before.word.ensures.0, ← c.before.word2.ensures.0) c.if1.false) (rw (← c.before.before.word.ensures.0, ← c.before.word2.ensures.0) (eqb-true _ _ e))
+returns c e = fours c.args.s.now c.args.p c.args.q (λ k. omega (arith, c.type_inv.s k)) (rw (← c.word.ensures.0, ← c.word-2.ensures.0) c.if-w-ne0.false) (rw (← c.word.ensures.0, ← c.word-2.ensures.0) (eqb-true _ _ e))
