@@ -1,4 +1,4 @@
-// Links the proved library: HASPNETTLE_LIB, or target/staticlib/libhost.a of the repository, which `rt staticlib host` makes.
+// Links the proved library: HASPNETTLE_LIB, or target/staticlib/libhost.a of the repository, which `.ci/staticlib host` makes.
 use std::path::{Path, PathBuf};
 use std::process::{self, Command};
 use std::time::SystemTime;
@@ -32,7 +32,7 @@ fn made(root: &Path) -> PathBuf {
     }
     let made = modified(&library);
     if let Some(source) = sources(root).into_iter().find(|s| modified(s) > made) {
-        fail(&format!("{} is older than {}: run `rt staticlib host` in {}", library.display(), source.display(), root.display()));
+        fail(&format!("{} is older than {}: run `bash .ci/staticlib host` in {}", library.display(), source.display(), root.display()));
     }
     println!("cargo::rerun-if-changed={}", root.join("crates").display());
     println!("cargo::rerun-if-changed={}", root.join("crates.txt").display());
@@ -40,12 +40,13 @@ fn made(root: &Path) -> PathBuf {
 }
 
 fn make(root: &Path, library: &Path) {
-    match Command::new("rt").args(["staticlib", "host"]).current_dir(root).output() {
-        Err(_) => {
-            fail(&format!("no {} and no `rt` to make it: put the Rattle kit's `rt` on PATH, or set HASPNETTLE_LIB", library.display()))
-        }
+    match Command::new("bash").args([".ci/staticlib", "host"]).current_dir(root).output() {
         Ok(_) if library.is_file() => {}
-        Ok(_) => fail(&format!("`rt staticlib host` did not make {}: run it in {} to see why", library.display(), root.display())),
+        _ => fail(&format!(
+            "no {}, and `bash .ci/staticlib host` did not make it: run that in {} to see why (it needs the Rattle kit's `rt` on PATH), or set HASPNETTLE_LIB",
+            library.display(),
+            root.display()
+        )),
     }
 }
 

@@ -1,15 +1,15 @@
 //! The calls across the C boundary. Nothing else in this crate is `unsafe`.
 
 extern "C" {
-    /// `#[no_mangle] pub extern "C" fn host_build(image: &[u8], out: &mut [u8]) -> u64` of crate `host`: a slice is a pointer and a length.
+    /// `#[no_mangle] pub extern "C" fn host_build(image: &[u8], out: &mut [u8]) -> u64` of crate `host_c`: a slice is a pointer and a length.
     fn host_build(image: *const u8, image_len: usize, out: *mut u8, out_len: usize) -> u64;
-    /// `#[no_mangle] pub extern "C" fn host_analyse(image: &[u8]) -> u64` of crate `host`.
+    /// `#[no_mangle] pub extern "C" fn host_analyse(image: &[u8]) -> u64` of crate `host_c`.
     fn host_analyse(image: *const u8, image_len: usize) -> u64;
-    /// `#[no_mangle] pub extern "C" fn host_text(image: &[u8], out: &mut [u8]) -> u64` of crate `host`.
+    /// `#[no_mangle] pub extern "C" fn host_text(image: &[u8], out: &mut [u8]) -> u64` of crate `host_c`.
     fn host_text(image: *const u8, image_len: usize, out: *mut u8, out_len: usize) -> u64;
-    /// `#[no_mangle] pub extern "C" fn host_why(image: &[u8], index: u64) -> u64` of crate `host`.
+    /// `#[no_mangle] pub extern "C" fn host_why(image: &[u8], index: u64) -> u64` of crate `host_c`.
     fn host_why(image: *const u8, image_len: usize, index: u64) -> u64;
-    /// `#[no_mangle] pub extern "C" fn host_lines(first: u64, words: &[u8], out: &mut [u8]) -> u64` of crate `host`.
+    /// `#[no_mangle] pub extern "C" fn host_lines(first: u64, words: &[u8], out: &mut [u8]) -> u64` of crate `host_c`.
     fn host_lines(first: u64, words: *const u8, words_len: usize, out: *mut u8, out_len: usize) -> u64;
 }
 
