@@ -13,11 +13,11 @@ put-k-requires c = omega (arith, c.requires, length-append (name_at c.args.img.n
 
 pub put_name-l-requires : goal.put_name-l-requires
 unfolding bytes
-put_name-l-requires c = omega (arith, c.requires, length-append (name_at c.args.img.now c.args.x) (bytes " type mismatch"), c.put-k.ensures.past, c.put-k.auto.0)
+put_name-l-requires c = omega (arith, c.requires, length-append (name_at c.args.img.now c.args.x) (bytes " type mismatch"), c.put-k.ensures.past, c.put-k.auto.out)
 
 pub put-requires : goal.put-requires
 unfolding bytes
-put-requires c = omega (arith, c.requires, length-append (name_at c.args.img.now c.args.x) (bytes " type mismatch"), c.put-k.ensures.past, c.put-k.auto.0, c.put_name-l.ensures.past, c.put_name-l.auto.0)
+put-requires c = omega (arith, c.requires, length-append (name_at c.args.img.now c.args.x) (bytes " type mismatch"), c.put-k.ensures.past, c.put-k.auto.out, c.put_name-l.ensures.past, c.put_name-l.auto.out)
 
 pub returns : goal.returns
 unfolding bytes

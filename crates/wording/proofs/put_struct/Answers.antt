@@ -13,11 +13,11 @@ put-a-requires c = omega (arith, c.requires, length-append (name_at c.args.img.n
 
 pub put_name-b-requires : goal.put_name-b-requires
 unfolding bytes
-put_name-b-requires c = omega (arith, c.requires, length-append (name_at c.args.img.now c.args.x) (bytes "\")"), c.put-a.ensures.past, c.put-a.auto.0)
+put_name-b-requires c = omega (arith, c.requires, length-append (name_at c.args.img.now c.args.x) (bytes "\")"), c.put-a.ensures.past, c.put-a.auto.out)
 
 pub put-requires : goal.put-requires
 unfolding bytes
-put-requires c = omega (arith, c.requires, length-append (name_at c.args.img.now c.args.x) (bytes "\")"), c.put-a.ensures.past, c.put-a.auto.0, c.put_name-b.ensures.past, c.put_name-b.auto.0)
+put-requires c = omega (arith, c.requires, length-append (name_at c.args.img.now c.args.x) (bytes "\")"), c.put-a.ensures.past, c.put-a.auto.out, c.put_name-b.ensures.past, c.put_name-b.auto.out)
 
 pub returns : goal.returns
 unfolding bytes
