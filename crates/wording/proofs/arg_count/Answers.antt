@@ -5,7 +5,6 @@ use lib.ListN.{length-append}
 use Rattle.rules.specs.Bytes.{name_at}
 use Rattle.rules.specs.Texts.{bytes, decimal}
 use Rattle.pieces.specs.Lays.{lays_then}
-use borrow.Author.Rules.{rules}
 use Rattle.wording.proofs.arg_count.Goals as goal
 
 pub put-i-requires : goal.put-i-requires

@@ -5,7 +5,6 @@ use lib.ListN.{length-append}
 use Rattle.rules.specs.Bytes.{name_at}
 use Rattle.rules.specs.Texts.{bytes}
 use Rattle.pieces.specs.Lays.{lays_then}
-use borrow.Author.Rules.{rules}
 use Rattle.wording.proofs.no_field.Goals as goal
 
 pub put-k-requires : goal.put-k-requires

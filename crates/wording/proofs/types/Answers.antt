@@ -5,7 +5,6 @@ use lib.ListN.{length-append}
 use Rattle.rules.specs.Texts.{bytes, type_text}
 use Rattle.lookup.specs.Answers.{ty_of}
 use Rattle.pieces.specs.Lays.{lays_then}
-use borrow.Author.Rules.{rules}
 use Rattle.wording.proofs.types.Goals as goal
 
 pub put-k-requires : goal.put-k-requires
