@@ -1,4 +1,5 @@
 -- The cycle of in_access, in_args, in_expr, in_inits, in_two meets its contracts.
+use native.Mathlib.Omega.{arith}
 use mathlib.Core.Path.{refl, sym, ap, ◌∙◌}
 use Prim.Native.Nat.{◌-◌}
 use Rattle.rules.specs.Bytes.{pick, after}

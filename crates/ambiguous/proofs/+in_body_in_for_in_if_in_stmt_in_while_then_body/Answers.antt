@@ -1,4 +1,5 @@
 -- The cycle of in_body, in_for, in_if, in_stmt, in_while, then_body meets its contracts.
+use native.Mathlib.Omega.{arith}
 use mathlib.Core.Path.{refl, sym, ap, ◌∙◌}
 use Rattle.rules.specs.Bytes.{pick, after}
 use Rattle.rules.specs.Read.{stmt_at_lem, stmt_as, stmt_kind_of, sIf, sWhile, sFor, third, contract_at}
