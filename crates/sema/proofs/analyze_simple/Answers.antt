@@ -8,7 +8,6 @@ use Rattle.sema.proofs.Runs.{still_ok}
 use Rattle.sema.proofs.Trees.{kind_rest}
 use Rattle.sema.specs.Steps.{only}
 use mathlib.Core.Path.{refl}
-use borrow.Author.Rules.{rules}
 use Rattle.sema.proofs.analyze_simple.Goals as goal
 
 pub run_expr-requires : goal.run_expr-requires
