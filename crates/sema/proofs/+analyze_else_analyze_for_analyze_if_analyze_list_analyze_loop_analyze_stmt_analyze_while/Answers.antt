@@ -123,7 +123,7 @@ unfolding stmt_kind_of pick
 analyze_stmt-analyze_for-requires t c = (omega arith, (c.requires.0, rw (stmt_kind c.args.d c.args.img.now c.args.at c.kind-k.result sFor c.if-d-eq0.false c.kind-k.ensures.0 (ap stmt_kind_of c.in-39.is)) at c.requires.1))
 
 pub analyze_stmt-analyze_simple-requires : goal.analyze_stmt-analyze_simple-requires
-analyze_stmt-analyze_simple-requires t c = (c.requires.0, (c.in_default.in_default-own.rest.0.0.0.1, (c.in_default.in_default-own.rest.0.0.1, (c.in_default.in_default-own.rest.0.1, c.in_default.in_default-own.rest.1))))
+analyze_stmt-analyze_simple-requires t c = (c.requires.0, ((omega arith), ((omega arith), ((omega arith), (omega arith)))))
 
 pub analyze_stmt-returns-in-32 : goal.analyze_stmt-returns-in-32
 unfolding stmt_kind_of pick
