@@ -1,10 +1,10 @@
 -- The cycle of in_access, in_args, in_expr, in_inits, in_two meets its contracts.
-use mathlib.Core.Path.{◌≡◌, refl, sym, ap, ◌∙◌}
-use Prim.Native.Nat.{◌+◌, ◌-◌, ◌*◌}
-use borrow.Author.Tests.{ltb-true, ltb-false}
-use Rattle.rules.specs.Bytes.{pick, inside, after}
-use Rattle.rules.specs.Read.{expr_at, expr_as, exprs_from, inits_from, kind_of, kMapping, kAccess, kLiteral, kBinary, kCall, contract_at}
-use Rattle.rules.specs.Ambiguous.{in_expr_lem, in_exprs, in_inits_lem}
+use native.Mathlib.Omega.{arith}
+use mathlib.Core.Path.{refl, sym, ap, ◌∙◌}
+use Prim.Native.Nat.{◌-◌}
+use Rattle.rules.specs.Bytes.{pick, after}
+use Rattle.rules.specs.Read.{expr_at, expr_as, kind_of, kMapping, kAccess, kLiteral, kBinary, kCall, contract_at}
+use Rattle.rules.specs.Ambiguous.{in_expr_lem}
 use Rattle.ambiguous.specs.Spots.{spot_of}
 use Rattle.ambiguous.proofs.Trees.{at_zero, at_kind}
 use Rattle.ambiguous.proofs.Walk.{then_first, then_second, leaf_kind, args_zero, args_end, args_here, args_next, inits_none, inits_over, inits_here, inits_next}

@@ -1,7 +1,6 @@
 -- The cycle of in_body, in_for, in_if, in_stmt, in_while, then_body meets its contracts.
-use mathlib.Core.Path.{◌≡◌, refl, sym, ap, ◌∙◌}
-use Prim.Native.Nat.{◌+◌, ◌*◌}
-use borrow.Author.Tests.{ltb-true, ltb-false}
+use native.Mathlib.Omega.{arith}
+use mathlib.Core.Path.{refl, sym, ap, ◌∙◌}
 use Rattle.rules.specs.Bytes.{pick, after}
 use Rattle.rules.specs.Read.{stmt_at_lem, stmt_as, stmts_from, stmt_kind_of, sIf, sWhile, sFor, body_at, third, contract_at}
 use Rattle.rules.specs.Ambiguous.{in_stmt_lem, in_stmts}

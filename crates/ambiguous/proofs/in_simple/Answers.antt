@@ -1,10 +1,10 @@
 -- in_simple meets its contract.
+use native.Mathlib.Omega.{arith}
 use Rattle.ambiguous.proofs.Trees.{kind_rest}
 use Rattle.ambiguous.specs.Spots.{spot_of}
 use Rattle.rules.specs.Ambiguous.{in_stmt_lem}
 use Rattle.rules.specs.Bytes.{pick}
 use Rattle.rules.specs.Read.{stmt_as, stmt_kind_of}
-use borrow.Author.Rules.{rules}
 use Rattle.ambiguous.proofs.in_simple.Goals as goal
 
 pub returns-in-32 : goal.returns-in-32

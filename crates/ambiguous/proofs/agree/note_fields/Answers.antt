@@ -1,13 +1,8 @@
 -- note_fields meets its contract.
-use Prim.Native.Nat.{◌-◌, ◌≤◌}
-use Rattle.ambiguous.proofs.Agreed.{ext_refl, ext_trans, Told, begin_fields, end_fields, end_count, one_field}
-use Rattle.ambiguous.specs.Slots.{Extends}
+use Rattle.ambiguous.proofs.Agreed.{ext_refl, ext_trans, begin_fields, end_fields, end_count, one_field}
 use Rattle.records.specs.Names.{never}
-use borrow.Author.Tests.{ltb-true, ltb-false}
-use lib.ListN.{length}
-use mathlib.Core.Path.{◌≡◌, refl, ◌∙◌}
+use mathlib.Core.Path.{refl, ◌∙◌}
 use native.Mathlib.Omega.{arith}
-use borrow.Author.Rules.{rules}
 use Rattle.ambiguous.proofs.agree.note_fields.Goals as goal
 
 pub loop-n-init : goal.loop-n-init
