@@ -8,8 +8,6 @@ use Rattle.rules.specs.Ambiguous.{in_expr_lem}
 use Rattle.ambiguous.specs.Spots.{spot_of}
 use Rattle.ambiguous.proofs.Trees.{at_zero, at_kind}
 use Rattle.ambiguous.proofs.Walk.{then_first, then_second, leaf_kind, args_zero, args_end, args_here, args_next, inits_none, inits_over, inits_here, inits_next}
-use borrow.Author.Rules.{rules}
-use Prim.Native.Nat.{ℕ, ◌<◌}
 use Rattle.ambiguous.proofs.+in_access_in_args_in_expr_in_inits_in_two.Goals as goal
 
 pub in_access-is_ambiguous_at-requires : goal.in_access-is_ambiguous_at-requires
@@ -66,7 +64,7 @@ in_expr-returns-in-71 t c = rw (at_kind c.args.d c.args.img.now c.args.at c.kind
 
 pub in_expr-returns-in_default : goal.in_expr-returns-in_default
 unfolding spot_of
-in_expr-returns-in_default t c = rw (at_kind c.args.d c.args.img.now c.args.at c.kind-k.result (kind_of c.kind-k.result) c.if-d-eq0.false c.kind-k.ensures.0 refl) (leaf_kind (contract_at c.args.img.now) (expr_at (c.args.d - 1) c.args.img.now) c.args.img.now c.args.at c.kind-k.result c.in_default.in_default-own.rest.0.0.0.0.1 c.in_default.in_default-own.rest.0.0.0.1 c.in_default.in_default-own.rest.0.0.1 c.in_default.in_default-own.rest.0.1 c.in_default.in_default-own.rest.1)
+in_expr-returns-in_default t c = rw (at_kind c.args.d c.args.img.now c.args.at c.kind-k.result (kind_of c.kind-k.result) c.if-d-eq0.false c.kind-k.ensures.0 refl) (leaf_kind (contract_at c.args.img.now) (expr_at (c.args.d - 1) c.args.img.now) c.args.img.now c.args.at c.kind-k.result (omega arith) (omega arith) (omega arith) (omega arith) (omega arith))
 
 pub in_inits-loop-k-init : goal.in_inits-loop-k-init
 in_inits-loop-k-init t c = rw (c.body-p.ensures.0, c.past-end.ensures.0)

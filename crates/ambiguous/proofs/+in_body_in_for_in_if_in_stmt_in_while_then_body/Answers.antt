@@ -2,13 +2,11 @@
 use native.Mathlib.Omega.{arith}
 use mathlib.Core.Path.{refl, sym, ap, ◌∙◌}
 use Rattle.rules.specs.Bytes.{pick, after}
-use Rattle.rules.specs.Read.{stmt_at_lem, stmt_as, stmts_from, stmt_kind_of, sIf, sWhile, sFor, body_at, third, contract_at}
+use Rattle.rules.specs.Read.{stmt_at_lem, stmt_as, stmt_kind_of, sIf, sWhile, sFor, third, contract_at}
 use Rattle.rules.specs.Ambiguous.{in_stmt_lem, in_stmts}
 use Rattle.ambiguous.specs.Spots.{spot_of}
 use Rattle.ambiguous.proofs.Trees.{stmt_zero, stmt_kind, else_there, else_not}
 use Rattle.ambiguous.proofs.Walk.{then_first, then_second, else_else, else_none, three, body_zero, body_end, body_here, body_next}
-use borrow.Author.Rules.{rules}
-use Prim.Native.Nat.{ℕ, ◌<◌}
 use Rattle.ambiguous.proofs.+in_body_in_for_in_if_in_stmt_in_while_then_body.Goals as goal
 
 pub in_body-loop-k-init : goal.in_body-loop-k-init
@@ -45,7 +43,7 @@ unfolding in_stmt_lem spot_of
 in_stmt-returns-then-d-eq0 t c = rw (stmt_zero c.args.d c.args.img.now c.args.at c.if-d-eq0.true)
 
 pub in_stmt-in_simple-requires : goal.in_stmt-in_simple-requires
-in_stmt-in_simple-requires t c = (c.requires, (c.in_default.in_default-own.rest.0.0.1, (c.in_default.in_default-own.rest.0.1, c.in_default.in_default-own.rest.1)))
+in_stmt-in_simple-requires t c = (c.requires, ((omega arith), ((omega arith), (omega arith))))
 
 pub in_stmt-returns-in-37 : goal.in_stmt-returns-in-37
 unfolding stmt_kind_of pick
