@@ -1,4 +1,4 @@
--- The cycle of the statements meets its contracts; what each member asks stands in a file of its own.
+-- The cycle of the statements meets its contracts; each answer begins with the name of its function.
 use Prim.Native.Nat.{◌+◌, ◌%◌, ◌-◌}
 use native.Mathlib.Omega.{arith}
 use mathlib.Core.Path.{refl, ◌∙◌, sym, ap}
