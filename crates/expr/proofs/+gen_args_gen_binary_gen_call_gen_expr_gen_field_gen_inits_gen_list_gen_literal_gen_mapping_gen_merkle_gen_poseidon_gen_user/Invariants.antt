@@ -1,4 +1,4 @@
--- The cycle {gen_args, gen_binary, gen_call, gen_expr, gen_field, gen_inits, gen_list, gen_literal, gen_mapping, gen_merkle, gen_poseidon, gen_user}: the needs of each member are in a file of its own.
+-- The cycle {gen_args, gen_binary, gen_call, gen_expr, gen_field, gen_inits, gen_list, gen_literal, gen_mapping, gen_merkle, gen_poseidon, gen_user} meets its contracts; each answer begins with the name of its function.
 use Prim.Native.Nat.{◌+◌, ◌*◌, ◌-◌}
 use Rattle.emit.specs.Sinks.{sinks}
 use Rattle.expr.proofs.Loops.{Gathering, args_from, inits_from_lem}
