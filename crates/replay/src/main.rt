@@ -1,11 +1,12 @@
 // The stored answers of the Rust (docs/STORED.md) on standard input, held against build, build_entries, analyse and text: how many there are and how many differ.
 #![tactic(auto)]
 
-ghost use Rattle.std.specs.Prelude.{◌≤◌, ◌<◌};
+ghost use Rattle.std.specs.Prelude.{◌≤◌, ◌<◌, IfOk};
 
 use entries::Entry;
-use libc::{STDIN_FILENO, STDOUT_FILENO};
 use rules::Answer;
+use std::io;
+use std::io::{ErrorKind, Read};
 
 // What each word of the code slice and each number of the table is before a build.
 const WORD: u64 = 0xa5a5_a5a5_a5a5_a5a5;
@@ -173,7 +174,7 @@ fn roomed(case: Case, image: &[u8], code: &mut [u64], table: &mut [u64]) -> bool
     built(case, image, &mut code[..words], &mut table[..entries])
 }
 
-// The one function that lends entries, since its proof is by hand: they come and go by value.
+// The one function that lends entries: they come and go by value.
 fn listed(image: &[u8], code: &mut [u64], entries: [Entry; 256], n: usize) -> Made
     requires { n ≤ 256 }
 {
@@ -273,40 +274,59 @@ fn differing(case: Case, image: &[u8], stored: &[u8]) -> u64
     numbers + structs + analysis + differs(told(case, image, stored))
 }
 
+// Whether the input had bytes for the whole slice.
+fn read_whole(input: &mut impl Read, buf: &mut [u8]) -> io::Result<bool> {
+    match input.read_exact(buf) {
+        Ok(()) => Ok(true),
+        Err(e) => {
+            if e.kind() == ErrorKind::UnexpectedEof {
+                Ok(false)
+            } else {
+                Err(e)
+            }
+        }
+    }
+}
+
 // The image and the text of a case are read, and its answers compared.
-fn read(case: Case, image: &mut [u8], stored: &mut [u8]) -> u64
-    ensures { result ≤ 4 }
+fn read(input: &mut impl Read, case: Case, image: &mut [u8], stored: &mut [u8]) -> io::Result<u64>
+    ensures { IfOk result (λ n. n ≤ 4) }
 {
-    if io::read_full(STDIN_FILENO, image) != image.len() {
-        return 4;
+    if !read_whole(input, image)? {
+        return Ok(4);
     }
-    if io::read_full(STDIN_FILENO, stored) != stored.len() {
-        return 4;
+    if !read_whole(input, stored)? {
+        return Ok(4);
     }
-    differing(case, image, stored)
+    Ok(differing(case, image, stored))
 }
 
 // The case whose stored numbers are `head`, with room for its image and its text.
-fn judged(head: &[u8], image: &mut [u8], stored: &mut [u8]) -> u64
-    ensures { result ≤ 4 }
+fn judged(
+    input: &mut impl Read,
+    head: &[u8],
+    image: &mut [u8],
+    stored: &mut [u8],
+) -> io::Result<u64>
+    ensures { IfOk result (λ n. n ≤ 4) }
 {
     let case = case_in(head);
     let n = least(case.size, image.len());
     let t = least(case.text, stored.len());
-    read(case, &mut image[..n], &mut stored[..t])
+    read(input, case, &mut image[..n], &mut stored[..t])
 }
 
 // The answers that differ in the next case.
-fn replayed() -> u64
-    ensures { result ≤ 4 }
+fn replayed(input: &mut impl Read) -> io::Result<u64>
+    ensures { IfOk result (λ n. n ≤ 4) }
 {
     let mut head = [0u8; 52];
     let mut image = [0u8; 65537];
     let mut stored = [0u8; 256];
-    if io::read_full(STDIN_FILENO, &mut head) != 52 {
-        return 4;
+    if !read_whole(input, &mut head)? {
+        return Ok(4);
     }
-    judged(&head, &mut image, &mut stored)
+    judged(input, &head, &mut image, &mut stored)
 }
 
 // A number of the header.
@@ -318,25 +338,23 @@ fn counted(head: &[u8], at: usize) -> u64
 }
 
 // So many cases, and the answers that differ in them.
-fn replay(cases: u64)
+fn replay(rt: &impl Print, input: &mut impl Read, cases: u64) -> io::Result<()>
     requires { cases < 4294967296 }
 {
     let mut differ = 0;
     let mut done = 0;
     while done < cases {
-        differ = differ + replayed();
+        differ = differ + replayed(input)?;
         done += 1;
     }
-    io::print_decimal(STDOUT_FILENO, cases);
-    io::write_all(STDOUT_FILENO, b" cases, ");
-    io::print_decimal(STDOUT_FILENO, differ);
-    io::write_all(STDOUT_FILENO, b" answers differ\n");
+    println!(rt; "{cases} cases, {differ} answers differ")
 }
 
 // The stored cases; then those that have a wrong number on purpose, so that a comparison which is lost is noticed.
-fn main() {
+fn main(rt: HostRuntime) -> io::Result<()> {
+    let mut input = rt.stdin();
     let mut head = [0u8; 32];
-    io::read_full(STDIN_FILENO, &mut head);
-    replay(counted(&head, 8));
-    replay(counted(&head, 28));
+    read_whole(&mut input, &mut head)?;
+    replay(&rt, &mut input, counted(&head, 8))?;
+    replay(&rt, &mut input, counted(&head, 28))
 }
