@@ -1,6 +1,5 @@
 -- `step_expr` meets its contract.
 use mathlib.Core.Path.{ap}
-use borrow.Author.Rules.{rules}
 use Rattle.rules.specs.Bytes.{pick}
 use Rattle.rules.specs.Read.{kind_of, kMapping, kAccess, kLiteral, kBinary, kCall}
 use Rattle.seek.specs.Parts.{kind_in, kind_own}
