@@ -149,7 +149,7 @@ module _ (C : Contract) (clear : (x : Name) → unsure C x ≡ false) where
     unfolding in_expr_lem in_exprs in_inits_lem or_else pick
 
     no_expr : (e : Expr) → in_expr_lem C e ≡ none
-    no_expr (Expr.no_expr p) = refl
+    no_expr (Expr.no-expr p) = refl
     no_expr (Expr.int p v) = refl
     no_expr (Expr.ident p x) = refl
     no_expr (Expr.storage-read p x) = refl
@@ -171,7 +171,7 @@ module _ (C : Contract) (clear : (x : Name) → unsure C x ≡ false) where
     unfolding in_stmt_lem in_stmts or_else
 
     no_stmt : (s : Stmt) → in_stmt_lem C s ≡ none
-    no_stmt (Stmt.no_stmt p) = refl
+    no_stmt (Stmt.no-stmt p) = refl
     no_stmt (Stmt.let-in p x e) = no_expr e
     no_stmt (Stmt.constrain p e) = no_expr e
     no_stmt (Stmt.assign p x e) = no_expr e

@@ -10,7 +10,7 @@ use Rattle.rules.specs.Refusal.{Refusal, Res, ok, bad, ◌>>=◌}
 use Rattle.rules.specs.Builtins.{main}
 use Rattle.rules.specs.Ambiguous.{first_ambiguous_lem}
 use Rattle.rules.specs.Emit.{Rules}
-use Rattle.rules.specs.Link.{Program, functions, with_main, generate}
+use Rattle.rules.specs.Link.{Program, with_main, generate}
 use Rattle.rules.specs.Build.{clear, analysed, judged, program}
 use Rattle.before.specs.Old.{first_before, generate_before, judged_before, program_before}
 use Rattle.before.specs.Meant.{bad_ok}

@@ -1,6 +1,6 @@
 -- Each field that the table of low bytes lets our generator set (02: P7) is set in some word of some program: all of them in one, by computation.
 -- Assumes nothing.
-use Rattle.std.specs.Prelude.{◌≡◌, refl, Bool, true, false, cond, List, [], ◌∷◌, ◌++◌, map, ℕ, suc, ◌%◌, ◌^◌, ◌<◌, T, eqb, get_or}
+use Rattle.std.specs.Prelude.{◌≡◌, refl, Bool, true, false, cond, List, [], ◌∷◌, map, ℕ, suc, ◌%◌, ◌^◌, ◌<◌, T, eqb, get_or}
 use Rattle.std.proofs.Common.{sym, subst, arith, eqb-true}
 use Rattle.std.proofs.lemmas.Bool.{eqb-false}
 use Rattle.isa.specs.declared.Opcode.{Opcode}

@@ -1,7 +1,7 @@
 -- The law refuses what it is to refuse: four wrong translations, each a word list with its table, and a proof that the law does not
 -- hold of it. And it minds no dead code: it holds of a function with nonsense behind its Return.
 -- Assumes nothing.
-use Rattle.std.specs.Prelude.{refl, List, [], ◌∷◌, ◌++◌, ℕ, zero, suc, ◌+◌, ◌-◌, ◌≤◌, ◌<◌}
+use Rattle.std.specs.Prelude.{refl, List, [], ◌∷◌, ◌++◌, ℕ, zero, suc, ◌≤◌, ◌<◌}
 use Rattle.std.proofs.Common.{sym, ap, arith}
 use Rattle.isa.specs.declared.Opcode.TheVariants as op
 use Rattle.rules.specs.Bytes.{pick, eq_name}

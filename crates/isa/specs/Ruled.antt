@@ -1,12 +1,11 @@
 -- Laws of a table that says what is known of each low byte (02: P7): the decisions that it replaces come out as before.
 -- Assumes nothing.
 use Rattle.std.specs.Prelude.{◌≡◌, ℕ, zero, suc, ◌+◌, ◌*◌, ◌/◌, ◌%◌, ◌^◌, ◌<◌, ◌≤◌, Bool, true, false, cond, T, List, [], ◌∷◌, length, get_or, ◌==◌, ◌≢◌, nat_eq, nat_lt, slice_index, slice_index_or, refl}
-use Rattle.std.proofs.Common.{sym, ap, subst, ◌∙◌, arith, eqb→eq, ltb-true, ltb-false, eqb-true}
+use Rattle.std.proofs.Common.{sym, ap, ◌∙◌, arith, eqb→eq, ltb-true, ltb-false, eqb-true}
 use Rattle.std.proofs.Math.ListN.{get_or-eq_default}
 use Rattle.std.proofs.lemmas.Bool.{eqb-false}
 use Rattle.isa.specs.declared.Opcode.{Opcode}
 use Rattle.isa.specs.declared.Opcode.TheVariants.{Halt, VerifyMerkle}
-use Rattle.isa.specs.declared.Op.{Op}
 use Rattle.isa.specs.declared.Op.TheVariants.{Known, Unknown}
 use Rattle.isa.specs.declared.Height.{Height}
 use Rattle.isa.specs.declared.Height.TheVariants.{Same, Up, Down, Call, Ret}

@@ -1,7 +1,7 @@
 -- A loop that clears a buffer from the front, at any width: after i turns it is i zeros over what was lent. Assumes nothing.
 use mathlib.Core.Path.{◌≡◌, refl, sym, ap, ◌∙◌, subst}
 use mathlib.Core.List.{List, [], ◌∷◌}
-use Prim.Native.Nat.{ℕ, suc, ◌+◌, ◌≤◌}
+use Prim.Native.Nat.{ℕ, ◌+◌, ◌≤◌}
 use native.Mathlib.Nat.{le_antisymm}
 use lib.ListN.{length, set, replicate, length-replicate, replicate-append-replicate}
 use Rattle.rules.specs.Lent.{over, cleared}

@@ -1,6 +1,6 @@
 -- How long lines are, and what the loop over words has listed.
 --     no_flag, some_flag, length_flag      nothing or ` +` behind a word
---     length_line      at most 40 bytes; length-lines: of n words at most 40 n
+--     length_line      at most 40 bytes; length_lines: of n words at most 40 n
 --     counted          how many bytes a text took
 --     none_yet, more, whole      what the loop over the words has listed: nothing yet, one line more, all
 -- Assumes nothing.

@@ -1,5 +1,5 @@
 -- The numbers that stand in the slice once every function is placed (000: generate, the loop over unpatched_calls).
---     linked       one of them (kept_word: a word stays); linkedFrom: from index i on: length_linked, linked_more
+--     linked       one of them (kept_word: a word stays); linked_from: from index i on: length_linked, linked_more
 -- Assumes nothing.
 use Rattle.std.specs.Prelude.{◌≡◌, refl, List, [], ◌∷◌, ◌++◌, ℕ, suc, ◌+◌, ◌/◌, ◌%◌, ◌^◌, ◌<◌, leb, ltb, length, get_or}
 use Rattle.std.proofs.Common.{sym, ap, ◌∙◌, add-zero, add-suc, suc-add}

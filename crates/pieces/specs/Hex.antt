@@ -1,6 +1,6 @@
 -- Hex digits written from the last to the first.
 --     Hexing           the last of the digits lie behind n + i, and those before them are the i digits of what is left
---     hexing_start, hexing_more, hexing_end      before the loop, one digit more, all of them (hexing-length: the slice is as long)
+--     hexing_start, hexing_more, hexing_end      before the loop, one digit more, all of them (hexing_length: the slice is as long)
 --     glyph_low, glyph_high, length_hex          a digit by cases; how many there are
 -- Assumes nothing.
 use Rattle.std.specs.Prelude.{◌≡◌, refl, List, [], ◌∷◌, ◌++◌, ℕ, zero, suc, ◌+◌, ◌/◌, ◌%◌, ◌≤◌, ◌<◌, length, set}

@@ -1,7 +1,7 @@
 -- Why a word is there (02: P5): the record whose own translation emitted it, whether 000 patched it later, and where its offset leads.
 -- Every open word has its record from the start (Emit), so that marking is no second translation: the build's words are these, linked.
 -- Assumes nothing.
-use Rattle.std.specs.Prelude.{Bool, true, false, List, ◌++◌, ℕ, suc, ◌+◌, ◌-◌}
+use Rattle.std.specs.Prelude.{true, false, List, ◌++◌, ℕ, suc, ◌+◌, ◌-◌}
 use Rattle.std.proofs.Math.Option.{Option, none, some}
 use Rattle.rules.specs.declared.Why.{Why}
 use Rattle.rules.specs.Bytes.{pick}

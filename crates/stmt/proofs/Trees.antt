@@ -1,7 +1,7 @@
 -- What is read at a place, case by case.
 --     at_none, at_kind           a statement
 --     other                      no kind of a statement
---     else_some, else_none       an else; third-is: where it stands
+--     else_some, else_none       an else; third_is: where it stands
 --     value_some, value_none     a Return's value
 -- Assumes nothing.
 use mathlib.Core.Path.{◌≡◌, refl, ap, ◌∙◌}

@@ -210,12 +210,12 @@ pub record Branch (img s u : List ℕ) (R : Rules) (d i x y z stop : ℕ) (st v 
 
 module _ {img s u : List ℕ} {R : Rules} {d i x y z stop : ℕ} {st v a e b : St} (B : Branch img s u R d i x y z stop st v a e b) where
   -- the statement, by these places
-  parts_are : taken sIf d img i ≡ Stmt.if_else i (expr_at d img x) (body_at (stmt_at_lem d img) img y) (else_at (stmt_at_lem d img) img z stop)
+  parts_are : taken sIf d img i ≡ Stmt.if-else i (expr_at d img x) (body_at (stmt_at_lem d img) img y) (else_at (stmt_at_lem d img) img z stop)
   unfolding stmt_as
   parts_are =
       let f : second img i ≡ y = ap (after img) (sym B.cond) ∙ sym B.then in
       let g : third img i ≡ z = ap (after img) f ∙ sym B.else in
-      λ j. Stmt.if_else i (expr_at d img (sym B.cond j)) (body_at (stmt_at_lem d img) img (f j)) (else_at (stmt_at_lem d img) img (g j) (sym B.ends j))
+      λ j. Stmt.if-else i (expr_at d img (sym B.cond j)) (body_at (stmt_at_lem d img) img (f j)) (else_at (stmt_at_lem d img) img (g j) (sym B.ends j))
 
   abbrev others : Res (Out Here)
   others = gen_stmts_lem (rules_of R) (contract_at img) (else_at (stmt_at_lem d img) img z stop) (scope_in img s) st.next

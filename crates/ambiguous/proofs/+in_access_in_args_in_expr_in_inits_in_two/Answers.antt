@@ -1,74 +1,17 @@
 -- The cycle of in_access, in_args, in_expr, in_inits, in_two meets its contracts.
-use mathlib.Core.Path.{◌≡◌, refl, sym, ap, ◌∙◌}
-use Prim.Native.Nat.{◌+◌, ◌-◌, ◌*◌}
-use borrow.Author.Tests.{ltb-true, ltb-false}
-use Rattle.rules.specs.Bytes.{pick, inside, after}
-use Rattle.rules.specs.Read.{expr_at, expr_as, exprs_from, inits_from, kind_of, kMapping, kAccess, kLiteral, kBinary, kCall, contract_at}
-use Rattle.rules.specs.Ambiguous.{in_expr_lem, in_exprs, in_inits_lem}
+use native.Mathlib.Omega.{arith}
+use mathlib.Core.Path.{refl, sym, ap, ◌∙◌}
+use Prim.Native.Nat.{◌-◌}
+use Rattle.rules.specs.Bytes.{pick, after}
+use Rattle.rules.specs.Read.{expr_at, expr_as, kind_of, kMapping, kAccess, kLiteral, kBinary, kCall, contract_at}
+use Rattle.rules.specs.Ambiguous.{in_expr_lem}
 use Rattle.ambiguous.specs.Spots.{spot_of}
 use Rattle.ambiguous.proofs.Trees.{at_zero, at_kind}
 use Rattle.ambiguous.proofs.Walk.{then_first, then_second, leaf_kind, args_zero, args_end, args_here, args_next, inits_none, inits_over, inits_here, inits_next}
-use borrow.Author.Rules.{rules}
-use Prim.Native.Nat.{ℕ, ◌<◌}
-use borrow.Fn.Kinds.{In}
-use borrow.Fn.PlainCycle.{Measures, is, falls, and}
-use Rattle.ambiguous.proofs.in_access.Kinds as in-access-kinds
-use Rattle.ambiguous.proofs.in_args.Kinds as in-args-kinds
-use Rattle.ambiguous.proofs.in_expr.Kinds as in-expr-kinds
-use Rattle.ambiguous.proofs.in_inits.Kinds as in-inits-kinds
-use Rattle.ambiguous.proofs.in_two.Kinds as in-two-kinds
-use Rattle.ambiguous.proofs.+in_access_in_args_in_expr_in_inits_in_two.{statement}
 use Rattle.ambiguous.proofs.+in_access_in_args_in_expr_in_inits_in_two.Goals as goal
 
-abbrev μ-in-access : Measures 3 in-access-kinds.ps ℕ
-μ-in-access κs a = 2 * a.1.1.1.0 + 1
-
-abbrev μ-in-args : Measures 3 in-args-kinds.ps ℕ
-μ-in-args κs a = 2 * a.1.1.1.0 + 1
-
-abbrev μ-in-expr : Measures 3 in-expr-kinds.ps ℕ
-μ-in-expr κs a = 2 * a.1.1.1.0
-
-abbrev μ-in-inits : Measures 3 in-inits-kinds.ps ℕ
-μ-in-inits κs a = 2 * a.1.1.1.0 + 1
-
-abbrev μ-in-two : Measures 3 in-two-kinds.ps ℕ
-μ-in-two κs a = 2 * a.1.1.1.0 + 1
-
-abbrev in-access-at : ℕ → In 3 in-access-kinds.ps
-in-access-at t = and 3 in-access-kinds.ps (is 3 in-access-kinds.ps μ-in-access t) in-access.Pre
-
-abbrev in-access-below : ℕ → In 3 in-access-kinds.ps
-in-access-below t =
-    and 3 in-access-kinds.ps (falls 3 in-access-kinds.ps ◌<◌ μ-in-access t) in-access.Pre
-
-abbrev in-args-at : ℕ → In 3 in-args-kinds.ps
-in-args-at t = and 3 in-args-kinds.ps (is 3 in-args-kinds.ps μ-in-args t) in-args.Pre
-
-abbrev in-args-below : ℕ → In 3 in-args-kinds.ps
-in-args-below t = and 3 in-args-kinds.ps (falls 3 in-args-kinds.ps ◌<◌ μ-in-args t) in-args.Pre
-
-abbrev in-expr-at : ℕ → In 3 in-expr-kinds.ps
-in-expr-at t = and 3 in-expr-kinds.ps (is 3 in-expr-kinds.ps μ-in-expr t) in-expr.Pre
-
-abbrev in-expr-below : ℕ → In 3 in-expr-kinds.ps
-in-expr-below t = and 3 in-expr-kinds.ps (falls 3 in-expr-kinds.ps ◌<◌ μ-in-expr t) in-expr.Pre
-
-abbrev in-inits-at : ℕ → In 3 in-inits-kinds.ps
-in-inits-at t = and 3 in-inits-kinds.ps (is 3 in-inits-kinds.ps μ-in-inits t) in-inits.Pre
-
-abbrev in-inits-below : ℕ → In 3 in-inits-kinds.ps
-in-inits-below t =
-    and 3 in-inits-kinds.ps (falls 3 in-inits-kinds.ps ◌<◌ μ-in-inits t) in-inits.Pre
-
-abbrev in-two-at : ℕ → In 3 in-two-kinds.ps
-in-two-at t = and 3 in-two-kinds.ps (is 3 in-two-kinds.ps μ-in-two t) in_two.Pre
-
-abbrev in-two-below : ℕ → In 3 in-two-kinds.ps
-in-two-below t = and 3 in-two-kinds.ps (falls 3 in-two-kinds.ps ◌<◌ μ-in-two t) in_two.Pre
-
 pub in_access-is_ambiguous_at-requires : goal.in_access-is_ambiguous_at-requires
-in_access-is_ambiguous_at-requires t c = (c.requires.1, c.past.ensures.0 ∙ ap (after c.args.img.now) c.body-base.ensures.0)
+in_access-is_ambiguous_at-requires t c = (c.requires, c.past.ensures.0 ∙ ap (after c.args.img.now) c.body-base.ensures.0)
 
 pub in_access-returns-then-is_ambiguous_at : goal.in_access-returns-then-is_ambiguous_at
 unfolding in_expr_lem expr_as pick spot_of
@@ -121,7 +64,7 @@ in_expr-returns-in-71 t c = rw (at_kind c.args.d c.args.img.now c.args.at c.kind
 
 pub in_expr-returns-in_default : goal.in_expr-returns-in_default
 unfolding spot_of
-in_expr-returns-in_default t c = rw (at_kind c.args.d c.args.img.now c.args.at c.kind-k.result (kind_of c.kind-k.result) c.if-d-eq0.false c.kind-k.ensures.0 refl) (leaf_kind (contract_at c.args.img.now) (expr_at (c.args.d - 1) c.args.img.now) c.args.img.now c.args.at c.kind-k.result c.in_default.in_default-own.rest.0.0.0.0.1 c.in_default.in_default-own.rest.0.0.0.1 c.in_default.in_default-own.rest.0.0.1 c.in_default.in_default-own.rest.0.1 c.in_default.in_default-own.rest.1)
+in_expr-returns-in_default t c = rw (at_kind c.args.d c.args.img.now c.args.at c.kind-k.result (kind_of c.kind-k.result) c.if-d-eq0.false c.kind-k.ensures.0 refl) (leaf_kind (contract_at c.args.img.now) (expr_at (c.args.d - 1) c.args.img.now) c.args.img.now c.args.at c.kind-k.result (omega arith) (omega arith) (omega arith) (omega arith) (omega arith))
 
 pub in_inits-loop-k-init : goal.in_inits-loop-k-init
 in_inits-loop-k-init t c = rw (c.body-p.ensures.0, c.past-end.ensures.0)

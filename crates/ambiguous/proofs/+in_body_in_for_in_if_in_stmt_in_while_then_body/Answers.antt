@@ -1,81 +1,13 @@
 -- The cycle of in_body, in_for, in_if, in_stmt, in_while, then_body meets its contracts.
-use mathlib.Core.Path.{◌≡◌, refl, sym, ap, ◌∙◌}
-use Prim.Native.Nat.{◌+◌, ◌*◌}
-use borrow.Author.Tests.{ltb-true, ltb-false}
+use native.Mathlib.Omega.{arith}
+use mathlib.Core.Path.{refl, sym, ap, ◌∙◌}
 use Rattle.rules.specs.Bytes.{pick, after}
-use Rattle.rules.specs.Read.{stmt_at_lem, stmt_as, stmts_from, stmt_kind_of, sIf, sWhile, sFor, body_at, third, contract_at}
+use Rattle.rules.specs.Read.{stmt_at_lem, stmt_as, stmt_kind_of, sIf, sWhile, sFor, third, contract_at}
 use Rattle.rules.specs.Ambiguous.{in_stmt_lem, in_stmts}
 use Rattle.ambiguous.specs.Spots.{spot_of}
 use Rattle.ambiguous.proofs.Trees.{stmt_zero, stmt_kind, else_there, else_not}
 use Rattle.ambiguous.proofs.Walk.{then_first, then_second, else_else, else_none, three, body_zero, body_end, body_here, body_next}
-use borrow.Author.Rules.{rules}
-use Prim.Native.Nat.{ℕ, ◌<◌}
-use borrow.Fn.Kinds.{In}
-use borrow.Fn.PlainCycle.{Measures, is, falls, and}
-use Rattle.ambiguous.proofs.in_body.Kinds as in-body-kinds
-use Rattle.ambiguous.proofs.in_for.Kinds as in-for-kinds
-use Rattle.ambiguous.proofs.in_if.Kinds as in-if-kinds
-use Rattle.ambiguous.proofs.in_stmt.Kinds as in-stmt-kinds
-use Rattle.ambiguous.proofs.in_while.Kinds as in-while-kinds
-use Rattle.ambiguous.proofs.then_body.Kinds as then-body-kinds
-use Rattle.ambiguous.proofs.+in_body_in_for_in_if_in_stmt_in_while_then_body.{statement}
 use Rattle.ambiguous.proofs.+in_body_in_for_in_if_in_stmt_in_while_then_body.Goals as goal
-
-abbrev μ-in-body : Measures 3 in-body-kinds.ps ℕ
-μ-in-body κs a = 4 * a.1.1.1.0 + 1
-
-abbrev μ-in-for : Measures 3 in-for-kinds.ps ℕ
-μ-in-for κs a = 4 * a.1.1.1.0 + 3
-
-abbrev μ-in-if : Measures 3 in-if-kinds.ps ℕ
-μ-in-if κs a = 4 * a.1.1.1.0 + 3
-
-abbrev μ-in-stmt : Measures 3 in-stmt-kinds.ps ℕ
-μ-in-stmt κs a = 4 * a.1.1.1.0
-
-abbrev μ-in-while : Measures 3 in-while-kinds.ps ℕ
-μ-in-while κs a = 4 * a.1.1.1.0 + 3
-
-abbrev μ-then-body : Measures 3 then-body-kinds.ps ℕ
-μ-then-body κs a = 4 * a.1.1.1.0 + 2
-
-abbrev in-body-at : ℕ → In 3 in-body-kinds.ps
-in-body-at t = and 3 in-body-kinds.ps (is 3 in-body-kinds.ps μ-in-body t) in_Body.Pre
-
-abbrev in-body-below : ℕ → In 3 in-body-kinds.ps
-in-body-below t = and 3 in-body-kinds.ps (falls 3 in-body-kinds.ps ◌<◌ μ-in-body t) in_Body.Pre
-
-abbrev in-for-at : ℕ → In 3 in-for-kinds.ps
-in-for-at t = and 3 in-for-kinds.ps (is 3 in-for-kinds.ps μ-in-for t) in-for.Pre
-
-abbrev in-for-below : ℕ → In 3 in-for-kinds.ps
-in-for-below t = and 3 in-for-kinds.ps (falls 3 in-for-kinds.ps ◌<◌ μ-in-for t) in-for.Pre
-
-abbrev in-if-at : ℕ → In 3 in-if-kinds.ps
-in-if-at t = and 3 in-if-kinds.ps (is 3 in-if-kinds.ps μ-in-if t) in-if.Pre
-
-abbrev in-if-below : ℕ → In 3 in-if-kinds.ps
-in-if-below t = and 3 in-if-kinds.ps (falls 3 in-if-kinds.ps ◌<◌ μ-in-if t) in-if.Pre
-
-abbrev in-stmt-at : ℕ → In 3 in-stmt-kinds.ps
-in-stmt-at t = and 3 in-stmt-kinds.ps (is 3 in-stmt-kinds.ps μ-in-stmt t) in-stmt.Pre
-
-abbrev in-stmt-below : ℕ → In 3 in-stmt-kinds.ps
-in-stmt-below t = and 3 in-stmt-kinds.ps (falls 3 in-stmt-kinds.ps ◌<◌ μ-in-stmt t) in-stmt.Pre
-
-abbrev in-while-at : ℕ → In 3 in-while-kinds.ps
-in-while-at t = and 3 in-while-kinds.ps (is 3 in-while-kinds.ps μ-in-while t) in-while.Pre
-
-abbrev in-while-below : ℕ → In 3 in-while-kinds.ps
-in-while-below t =
-    and 3 in-while-kinds.ps (falls 3 in-while-kinds.ps ◌<◌ μ-in-while t) in-while.Pre
-
-abbrev then-body-at : ℕ → In 3 then-body-kinds.ps
-then-body-at t = and 3 then-body-kinds.ps (is 3 then-body-kinds.ps μ-then-body t) then-body.Pre
-
-abbrev then-body-below : ℕ → In 3 then-body-kinds.ps
-then-body-below t =
-    and 3 then-body-kinds.ps (falls 3 then-body-kinds.ps ◌<◌ μ-then-body t) then-body.Pre
 
 pub in_body-loop-k-init : goal.in_body-loop-k-init
 in_body-loop-k-init t c = rw (c.body-p.ensures.0, c.past-end.ensures.0)
@@ -111,7 +43,7 @@ unfolding in_stmt_lem spot_of
 in_stmt-returns-then-d-eq0 t c = rw (stmt_zero c.args.d c.args.img.now c.args.at c.if-d-eq0.true)
 
 pub in_stmt-in_simple-requires : goal.in_stmt-in_simple-requires
-in_stmt-in_simple-requires t c = (c.requires.1, (c.in_default.in_default-own.rest.0.0.1, (c.in_default.in_default-own.rest.0.1, c.in_default.in_default-own.rest.1)))
+in_stmt-in_simple-requires t c = (c.requires, ((omega arith), ((omega arith), (omega arith))))
 
 pub in_stmt-returns-in-37 : goal.in_stmt-returns-in-37
 unfolding stmt_kind_of pick

@@ -3,7 +3,6 @@ use mathlib.Core.Path.{◌∙◌, sym}
 use Rattle.ambiguous.proofs.Walk.{no_ambiguous}
 use Rattle.ambiguous.specs.Spots.{spot_of}
 use Rattle.rules.specs.Read.{contract_at}
-use borrow.Author.Rules.{rules}
 use borrow.Author.Tests.{eqb-true}
 use Rattle.ambiguous.proofs.first_ambiguous.Goals as goal
 

@@ -1,12 +1,8 @@
 -- in_functions meets its contract.
-use Prim.Native.Nat.{◌-◌, ◌≤◌}
-use Rattle.ambiguous.proofs.Walk.{functions_from, functions_all, functions_over, functions_here, functions_next}
+use Rattle.ambiguous.proofs.Walk.{functions_all, functions_over, functions_here, functions_next}
 use Rattle.ambiguous.specs.Spots.{spot_of}
-use Rattle.rules.specs.Ambiguous.{first_ambiguous_lem}
-use Rattle.rules.specs.Read.{contract_at}
-use mathlib.Core.Path.{◌≡◌, sym, ◌∙◌}
+use mathlib.Core.Path.{sym, ◌∙◌}
 use native.Mathlib.Omega.{arith}
-use borrow.Author.Rules.{rules}
 use Rattle.ambiguous.proofs.in_functions.Goals as goal
 
 pub loop-i-init : goal.loop-i-init

@@ -1,12 +1,9 @@
 -- in_functions meets its contract.
 use Prim.Native.Nat.{◌-◌, ◌≤◌}
-use Rattle.ambiguous.proofs.Walk.{functions_from, functions_all, functions_over, functions_here, functions_next}
-use Rattle.ambiguous.specs.Spots.{spot_of}
+use Rattle.ambiguous.proofs.Walk.{functions_from}
 use Rattle.rules.specs.Ambiguous.{first_ambiguous_lem}
 use Rattle.rules.specs.Read.{contract_at}
-use mathlib.Core.Path.{◌≡◌, sym, ◌∙◌}
-use native.Mathlib.Omega.{arith}
-use borrow.Author.Rules.{rules}
+use mathlib.Core.Path.{◌≡◌}
 use Rattle.ambiguous.proofs.in_functions.Given as goal
 
 abbrev pub invariant-loop-i : goal.invariant-loop-i

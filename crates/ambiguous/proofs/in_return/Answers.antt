@@ -3,7 +3,6 @@ use Rattle.ambiguous.proofs.Trees.{return_there, return_not}
 use Rattle.ambiguous.specs.Spots.{spot_of}
 use Rattle.rules.specs.Ambiguous.{in_stmt_lem}
 use Rattle.rules.specs.Read.{expr_at, stmt_at_lem}
-use borrow.Author.Rules.{rules}
 use Rattle.ambiguous.proofs.in_return.Goals as goal
 
 pub returns-then-value-past : goal.returns-then-value-past

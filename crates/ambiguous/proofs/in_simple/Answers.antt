@@ -1,10 +1,10 @@
 -- in_simple meets its contract.
+use native.Mathlib.Omega.{arith}
 use Rattle.ambiguous.proofs.Trees.{kind_rest}
 use Rattle.ambiguous.specs.Spots.{spot_of}
 use Rattle.rules.specs.Ambiguous.{in_stmt_lem}
 use Rattle.rules.specs.Bytes.{pick}
 use Rattle.rules.specs.Read.{stmt_as, stmt_kind_of}
-use borrow.Author.Rules.{rules}
 use Rattle.ambiguous.proofs.in_simple.Goals as goal
 
 pub returns-in-32 : goal.returns-in-32
@@ -41,4 +41,4 @@ returns-in-42 c = rw c.in-42.is (rw c.body-first.ensures.0 at c.in_expr-in-42.en
 
 pub returns-in_default : goal.returns-in_default
 unfolding in_stmt_lem stmt_as spot_of
-returns-in_default c = rw (kind_rest c.args.k c.in_default.in_default-own.rest.0.0.0.0.0.0.0.1 c.in_default.in_default-own.rest.0.0.0.0.0.0.1 c.in_default.in_default-own.rest.0.0.0.0.0.1 c.in_default.in_default-own.rest.0.0.0.0.1 c.in_default.in_default-own.rest.0.0.0.1 c.requires.1.0 c.requires.1.1.0 c.requires.1.1.1 c.in_default.in_default-own.rest.0.0.1 c.in_default.in_default-own.rest.0.1 c.in_default.in_default-own.rest.1)
+returns-in_default c = rw (kind_rest c.args.k (omega arith) (omega arith) (omega arith) (omega arith) (omega arith) c.requires.1.0 c.requires.1.1.0 c.requires.1.1.1 (omega arith) (omega arith) (omega arith))

@@ -1,5 +1,4 @@
 -- second meets its contract.
-use borrow.Author.Rules.{rules}
 use Rattle.ambiguous.proofs.second.Goals as goal
 
 pub returns : goal.returns

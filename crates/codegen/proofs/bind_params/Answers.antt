@@ -1,9 +1,6 @@
 -- bind_params meets its contract.
-use Prim.Native.Nat.{◌-◌}
 use native.Mathlib.Omega.{arith}
-use borrow.Author.Rules.{rules}
-use borrow.Author.Tests.{ltb-true, ltb-false}
-use Rattle.codegen.proofs.Params.{Binding, begins, goes, ends, no_more, no_room}
+use Rattle.codegen.proofs.Params.{begins, goes, ends, no_more, no_room}
 use Rattle.codegen.proofs.bind_params.Goals as goal
 
 pub loop-n-init : goal.loop-n-init
@@ -19,7 +16,7 @@ pub loop-n-smaller : goal.loop-n-smaller
 loop-n-smaller c = omega (arith, c.loop-n-test.true)
 
 pub loop-n-preserved : goal.loop-n-preserved
-loop-n-preserved c = goes _ _ _ _ _ _ _ c.loop-n.invariant c.loop-n-test.true c.if-p-end.true c.alloc_reg-s.ensures c.body-in-loop-n.ensures.0 c.bind.ensures c.bind.auto.0 c.past-p.ensures.0
+loop-n-preserved c = goes _ _ _ _ _ _ _ c.loop-n.invariant c.loop-n-test.true c.if-p-end.true c.alloc_reg-s.ensures c.body-in-loop-n.ensures.0 c.bind.ensures c.bind.auto.scope c.past-p.ensures.0
 
 pub shape_of-scope-else-p-end : goal.shape_of-scope-else-p-end
 shape_of-scope-else-p-end c = c.loop-n.invariant.size

@@ -1,9 +1,6 @@
 -- bind_params meets its contract.
 use Prim.Native.Nat.{◌-◌}
-use native.Mathlib.Omega.{arith}
-use borrow.Author.Rules.{rules}
-use borrow.Author.Tests.{ltb-true, ltb-false}
-use Rattle.codegen.proofs.Params.{Binding, begins, goes, ends, no_more, no_room}
+use Rattle.codegen.proofs.Params.{Binding}
 use Rattle.codegen.proofs.bind_params.Given as goal
 
 abbrev pub invariant-loop-n : goal.invariant-loop-n

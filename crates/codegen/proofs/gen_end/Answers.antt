@@ -1,5 +1,4 @@
 -- gen_end meets its contract.
-use borrow.Author.Rules.{rules}
 use Rattle.codegen.proofs.Pieces.{ended}
 use Rattle.codegen.proofs.gen_end.Goals as goal
 

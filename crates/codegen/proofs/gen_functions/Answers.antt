@@ -1,9 +1,6 @@
 -- gen_functions meets its contract.
-use Rattle.emit.specs.Sinks.{sinks}
-use Prim.Native.Nat.{◌-◌}
 use native.Mathlib.Omega.{arith}
-use borrow.Author.Rules.{rules}
-use Rattle.codegen.proofs.Firsts.{given, at_most, Placing, begins, goes, ends}
+use Rattle.codegen.proofs.Firsts.{given, at_most, begins, goes, ends}
 use Rattle.codegen.proofs.gen_functions.Goals as goal
 
 pub loop-k-init : goal.loop-k-init
@@ -19,7 +16,7 @@ pub loop-k-smaller : goal.loop-k-smaller
 loop-k-smaller c = omega (arith, c.loop-k-test.true)
 
 pub loop-k-preserved : goal.loop-k-preserved
-loop-k-preserved c = goes _ _ c.loop-k.invariant (omega (arith, c.loop-k-test.true, c.function_count-functions.ensures c.args.img.now c.requires.0.known.0)) c.requires.1.1 (c.function_place-f.ensures c.args.img.now c.requires.0.known.0 (omega (arith, c.loop-k-test.true, c.function_count-functions.ensures c.args.img.now c.requires.0.known.0))) c.gen_part-s.ensures (c.gen_part-s.auto.0, c.gen_part-s.auto.1.0) c.gen_part-s.auto.1.1.0
+loop-k-preserved c = goes _ _ c.loop-k.invariant (omega (arith, c.loop-k-test.true, c.function_count-functions.ensures c.args.img.now c.requires.0.known.0)) c.requires.1.1 (c.function_place-f.ensures c.args.img.now c.requires.0.known.0 (omega (arith, c.loop-k-test.true, c.function_count-functions.ensures c.args.img.now c.requires.0.known.0))) c.gen_part-s.ensures (c.gen_part-s.auto.code, c.gen_part-s.auto.bytes) c.gen_part-s.auto.scope
 
 pub shape_of-code : goal.shape_of-code
 shape_of-code c = c.loop-k.invariant.room.0

@@ -1,9 +1,7 @@
 -- gen_functions meets its contract.
 use Rattle.emit.specs.Sinks.{sinks}
 use Prim.Native.Nat.{◌-◌}
-use native.Mathlib.Omega.{arith}
-use borrow.Author.Rules.{rules}
-use Rattle.codegen.proofs.Firsts.{given, at_most, Placing, begins, goes, ends}
+use Rattle.codegen.proofs.Firsts.{Placing}
 use Rattle.codegen.proofs.gen_functions.Given as goal
 
 abbrev pub invariant-loop-k : goal.invariant-loop-k

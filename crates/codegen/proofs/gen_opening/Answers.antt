@@ -1,5 +1,4 @@
 -- gen_opening meets its contract.
-use borrow.Author.Rules.{rules}
 use Rattle.codegen.proofs.Pieces.{opened}
 use Rattle.codegen.proofs.gen_opening.Goals as goal
 

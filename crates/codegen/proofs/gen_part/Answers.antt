@@ -1,6 +1,5 @@
 -- gen_part meets its contract.
 use mathlib.Core.Path.{refl}
-use borrow.Author.Rules.{rules}
 use Rattle.codegen.proofs.Part.{in_part}
 use Rattle.emit.specs.Ran.{raw}
 use Rattle.codegen.proofs.gen_part.Goals as goal

@@ -14,16 +14,16 @@ pub gen_functions-r-requires : goal.gen_functions-r-requires
 gen_functions-r-requires c = (c.requires.0, (c.requires.1.1, search rules))
 
 pub place_calls-requires : goal.place_calls-requires
-place_calls-requires c = omega (arith, at_most c.args.img.now, c.function_count.ensures c.args.img.now c.requires.0.known.0, c.gen_functions-r.auto.1.1.1.0)
+place_calls-requires c = omega (arith, at_most c.args.img.now, c.function_count.ensures c.args.img.now c.requires.0.known.0, c.gen_functions-r.auto.firsts)
 
 pub shape_of-code : goal.shape_of-code
-shape_of-code c = c.place_calls.auto.0 ∙ c.gen_functions-r.auto.0 ∙ c.gen_opening-opened.auto.0
+shape_of-code c = c.place_calls.auto.code ∙ c.gen_functions-r.auto.code ∙ c.gen_opening-opened.auto.code
 
 pub shape_of-bytes : goal.shape_of-bytes
-shape_of-bytes c = c.place_calls.auto.1.0 ∙ c.gen_functions-r.auto.1.0 ∙ c.gen_opening-opened.auto.1.0
+shape_of-bytes c = c.place_calls.auto.bytes ∙ c.gen_functions-r.auto.bytes ∙ c.gen_opening-opened.auto.bytes
 
 pub shape_of-scope : goal.shape_of-scope
-shape_of-scope c = c.gen_functions-r.auto.1.1.0
+shape_of-scope c = c.gen_functions-r.auto.scope
 
 pub returns : goal.returns
 returns c = all _ c.args.img.now c.requires.0 c.requires.1.0 (c.gen_opening-opened.ensures.ran (contract_at c.args.img.now) c.main_index-main.ensures) c.gen_functions-r.ensures (rw (c.function_count.ensures c.args.img.now c.requires.0.known.0) at c.place_calls.ensures) c.main_index-main.ensures c.if-main-eq-NONE.false

@@ -1,5 +1,4 @@
 -- is_main meets its contract.
-use borrow.Author.Rules.{rules}
 use Rattle.rules.specs.Builtins.{main}
 use Rattle.codegen.proofs.is_main.Goals as goal
 

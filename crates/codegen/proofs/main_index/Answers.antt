@@ -1,9 +1,7 @@
 -- main_index meets its contract.
-use mathlib.Core.Path.{◌≡◌, sym, ◌∙◌}
-use Prim.Native.Nat.{◌-◌, ◌≤◌}
+use mathlib.Core.Path.{sym, ◌∙◌}
 use native.Mathlib.Omega.{arith}
-use borrow.Author.Rules.{rules}
-use Rattle.codegen.proofs.Mains.{main_of, none_yet, next, all_taken}
+use Rattle.codegen.proofs.Mains.{none_yet, next, all_taken}
 use Rattle.codegen.proofs.main_index.Goals as goal
 
 pub loop-k-init : goal.loop-k-init

@@ -1,9 +1,7 @@
 -- main_index meets its contract.
-use mathlib.Core.Path.{◌≡◌, sym, ◌∙◌}
+use mathlib.Core.Path.{◌≡◌}
 use Prim.Native.Nat.{◌-◌, ◌≤◌}
-use native.Mathlib.Omega.{arith}
-use borrow.Author.Rules.{rules}
-use Rattle.codegen.proofs.Mains.{main_of, none_yet, next, all_taken}
+use Rattle.codegen.proofs.Mains.{main_of}
 use Rattle.codegen.proofs.main_index.Given as goal
 
 abbrev pub invariant-loop-k : goal.invariant-loop-k

@@ -1,6 +1,5 @@
 -- place_calls meets its contract.
 use native.Mathlib.Omega.{arith}
-use borrow.Author.Rules.{rules}
 use lib.ListN.{length-take}
 use Rattle.codegen.proofs.place_calls.Goals as goal
 

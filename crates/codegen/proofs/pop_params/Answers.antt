@@ -1,14 +1,12 @@
 -- pop_params meets its contract.
-use Rattle.emit.specs.Sinks.{sinks}
-use borrow.Author.Rules.{rules}
-use Rattle.codegen.proofs.Params.{Popping, pops_begin, pops_go, pops_end}
+use Rattle.codegen.proofs.Params.{pops_begin, pops_go, pops_end}
 use Rattle.codegen.proofs.pop_params.Goals as goal
 
 pub loop-k-init : goal.loop-k-init
 loop-k-init c = pops_begin _ _ _
 
 pub loop-k-preserved : goal.loop-k-preserved
-loop-k-preserved c = pops_go _ _ _ c.loop-k.invariant c.loop-k-test.true c.number_in-reg.ensures c.emit-s.ensures (c.emit-s.auto.0, c.emit-s.auto.1.0)
+loop-k-preserved c = pops_go _ _ _ c.loop-k.invariant c.loop-k-test.true c.number_in-reg.ensures c.emit-s.ensures (c.emit-s.auto.code, c.emit-s.auto.bytes)
 
 pub shape_of-code : goal.shape_of-code
 shape_of-code c = c.loop-k.invariant.room.0

@@ -1,7 +1,6 @@
 -- pop_params meets its contract.
 use Rattle.emit.specs.Sinks.{sinks}
-use borrow.Author.Rules.{rules}
-use Rattle.codegen.proofs.Params.{Popping, pops_begin, pops_go, pops_end}
+use Rattle.codegen.proofs.Params.{Popping}
 use Rattle.codegen.proofs.pop_params.Given as goal
 
 abbrev pub invariant-loop-k : goal.invariant-loop-k

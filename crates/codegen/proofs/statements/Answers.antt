@@ -1,6 +1,5 @@
 -- statements meets its contract.
 use mathlib.Core.Path.{refl}
-use borrow.Author.Rules.{rules}
 use Rattle.codegen.proofs.statements.Goals as goal
 
 pub returns : goal.returns

@@ -1,194 +1,26 @@
--- The cycle {gen_args, gen_binary, gen_call, gen_expr, gen_field, gen_inits, gen_list, gen_literal, gen_mapping, gen_merkle, gen_poseidon, gen_user}: the needs of each member are in a file of its own.
-use Rattle.expr.proofs.+gen_args_gen_binary_gen_call_gen_expr_gen_field_gen_inits_gen_list_gen_literal_gen_mapping_gen_merkle_gen_poseidon_gen_user.{statement}
-use Prim.Native.Nat.{ℕ, ◌+◌, ◌*◌, ◌<◌}
-use borrow.Fn.Kinds.{In}
-use borrow.Fn.PlainCycle.{Measures, is, falls, and}
-use Rattle.expr.proofs.gen_args.Kinds as gen-args-kinds
-use Rattle.expr.proofs.gen_binary.Kinds as gen-binary-kinds
-use Rattle.expr.proofs.gen_call.Kinds as gen-call-kinds
-use Rattle.expr.proofs.gen_expr.Kinds as gen-expr-kinds
-use Rattle.expr.proofs.gen_field.Kinds as gen-field-kinds
-use Rattle.expr.proofs.gen_inits.Kinds as gen-inits-kinds
-use Rattle.expr.proofs.gen_list.Kinds as gen-list-kinds
-use Rattle.expr.proofs.gen_literal.Kinds as gen-literal-kinds
-use Rattle.expr.proofs.gen_mapping.Kinds as gen-mapping-kinds
-use Rattle.expr.proofs.gen_merkle.Kinds as gen-merkle-kinds
-use Rattle.expr.proofs.gen_poseidon.Kinds as gen-poseidon-kinds
-use Rattle.expr.proofs.gen_user.Kinds as gen-user-kinds
+-- The cycle {gen_args, gen_binary, gen_call, gen_expr, gen_field, gen_inits, gen_list, gen_literal, gen_mapping, gen_merkle, gen_poseidon, gen_user} meets its contracts; each answer begins with the name of its function.
 use Prim.Native.Nat.{ℕ}
-use Prim.Native.Nat.{◌+◌}
-use Rattle.emit.specs.Sinks.{sinks}
-use mathlib.Core.Path.{ap}
-use borrow.Author.Tests.{ltb-true, ltb-false}
+use mathlib.Core.Path.{ap, ◌∙◌, sym}
 use Rattle.expr.specs.declared.steps.Several.{Several}
-use Rattle.expr.proofs.Walk.{args_full, args_end}
-use Rattle.expr.proofs.Loops.{Gathering, gather_begin, args_from, args_go, gather_end}
-use Prim.Native.Nat.{ℕ, ◌-◌}
+use Rattle.expr.proofs.Walk.{args_full, args_end, binary_value, call_value, as_sender, as_nonce, as_number, at_zero, kind_other, no_value, other_value, by_kind, field_value, inits_full, inits_end, args_at, literal_value, mapping_value, merkle_value, poseidon_value, user_value}
+use Rattle.expr.proofs.Loops.{gather_begin, args_go, gather_end, inits_go}
 use native.Mathlib.Omega.{arith}
-use borrow.Author.Rules.{rules}
-use Rattle.expr.proofs.Walk.{binary_value}
 use Rattle.rules.specs.Emit.{opcode}
-use Rattle.rules.specs.Read.{bin_op_of}
-use mathlib.Core.Path.{ap, ◌∙◌}
-use Rattle.expr.proofs.Walk.{call_value, as_sender, as_nonce, as_number}
+use Rattle.rules.specs.Read.{bin_op_of, kInt, kIdent, kStorage, kMapping, kAccess, kLiteral, kBinary, kCall, kOther, kind_of}
 use Rattle.expr.specs.Names.{builtin_of}
 use Rattle.rules.specs.Builtins.{Builtin}
 use mathlib.Core.Option.{none, some}
-use mathlib.Core.Path.{sym, ap, ◌∙◌}
-use Rattle.expr.proofs.Walk.{at_zero, kind_other, no_value, other_value, by_kind}
-use Rattle.rules.specs.Read.{kInt, kIdent, kStorage, kMapping, kAccess, kLiteral, kBinary, kCall, kOther, kind_of}
-use Rattle.rules.specs.Bytes.{pick}
-use Rattle.expr.proofs.Walk.{field_value}
-use Rattle.rules.specs.Bytes.{after}
-use mathlib.Core.Path.{◌∙◌, ap}
-use Rattle.expr.proofs.Walk.{inits_full, inits_end}
-use Rattle.expr.proofs.Loops.{Gathering, gather_begin, inits_from_lem, inits_go, gather_end}
-use Rattle.expr.proofs.Walk.{args_at}
-use Rattle.expr.proofs.Walk.{literal_value}
-use Rattle.expr.proofs.Walk.{mapping_value}
-use Rattle.expr.proofs.Walk.{merkle_value}
-use Rattle.expr.proofs.Walk.{poseidon_value}
-use Rattle.expr.proofs.Walk.{user_value}
-use mathlib.Core.Path.{◌∙◌}
+use Rattle.rules.specs.Bytes.{pick, after}
 use Rattle.expr.proofs.+gen_args_gen_binary_gen_call_gen_expr_gen_field_gen_inits_gen_list_gen_literal_gen_mapping_gen_merkle_gen_poseidon_gen_user.Goals as goal
 
-abbrev pub μ-gen-args : Measures 7 gen-args-kinds.ps ℕ
-μ-gen-args κs a = 100 * a.1.1.1.1.1.1.1.1.0 + 1
-
-abbrev pub μ-gen-binary : Measures 6 gen-binary-kinds.ps ℕ
-μ-gen-binary κs a = 100 * a.1.1.1.1.1.1.1.0 + 70
-
-abbrev pub μ-gen-call : Measures 6 gen-call-kinds.ps ℕ
-μ-gen-call κs a = 100 * a.1.1.1.1.1.1.1.0 + 80
-
-abbrev pub μ-gen-expr : Measures 6 gen-expr-kinds.ps ℕ
-μ-gen-expr κs a = 100 * a.1.1.1.1.1.1.1.0
-
-abbrev pub μ-gen-field : Measures 6 gen-field-kinds.ps ℕ
-μ-gen-field κs a = 100 * a.1.1.1.1.1.1.1.0 + 70
-
-abbrev pub μ-gen-inits : Measures 7 gen-inits-kinds.ps ℕ
-μ-gen-inits κs a = 100 * a.1.1.1.1.1.1.1.1.0 + 1
-
-abbrev pub μ-gen-list : Measures 7 gen-list-kinds.ps ℕ
-μ-gen-list κs a = 100 * a.1.1.1.1.1.1.1.1.0 + 66
-
-abbrev pub μ-gen-literal : Measures 6 gen-literal-kinds.ps ℕ
-μ-gen-literal κs a = 100 * a.1.1.1.1.1.1.1.0 + 70
-
-abbrev pub μ-gen-mapping : Measures 6 gen-mapping-kinds.ps ℕ
-μ-gen-mapping κs a = 100 * a.1.1.1.1.1.1.1.0 + 70
-
-abbrev pub μ-gen-merkle : Measures 6 gen-merkle-kinds.ps ℕ
-μ-gen-merkle κs a = 100 * a.1.1.1.1.1.1.1.0 + 70
-
-abbrev pub μ-gen-poseidon : Measures 6 gen-poseidon-kinds.ps ℕ
-μ-gen-poseidon κs a = 100 * a.1.1.1.1.1.1.1.0 + 70
-
-abbrev pub μ-gen-user : Measures 6 gen-user-kinds.ps ℕ
-μ-gen-user κs a = 100 * a.1.1.1.1.1.1.1.0 + 70
-
-abbrev pub gen-args-at : ℕ → In 7 gen-args-kinds.ps
-gen-args-at t = and 7 gen-args-kinds.ps (is 7 gen-args-kinds.ps μ-gen-args t) gen-args.Pre
-
-abbrev pub gen-args-below : ℕ → In 7 gen-args-kinds.ps
-gen-args-below t =
-    and 7 gen-args-kinds.ps (falls 7 gen-args-kinds.ps ◌<◌ μ-gen-args t) gen-args.Pre
-
-abbrev pub gen-binary-at : ℕ → In 6 gen-binary-kinds.ps
-gen-binary-at t =
-    and 6 gen-binary-kinds.ps (is 6 gen-binary-kinds.ps μ-gen-binary t) gen-binary.Pre
-
-abbrev pub gen-binary-below : ℕ → In 6 gen-binary-kinds.ps
-gen-binary-below t =
-    and 6 gen-binary-kinds.ps (falls 6 gen-binary-kinds.ps ◌<◌ μ-gen-binary t) gen-binary.Pre
-
-abbrev pub gen-call-at : ℕ → In 6 gen-call-kinds.ps
-gen-call-at t = and 6 gen-call-kinds.ps (is 6 gen-call-kinds.ps μ-gen-call t) gen-call.Pre
-
-abbrev pub gen-call-below : ℕ → In 6 gen-call-kinds.ps
-gen-call-below t =
-    and 6 gen-call-kinds.ps (falls 6 gen-call-kinds.ps ◌<◌ μ-gen-call t) gen-call.Pre
-
-abbrev pub gen-expr-at : ℕ → In 6 gen-expr-kinds.ps
-gen-expr-at t = and 6 gen-expr-kinds.ps (is 6 gen-expr-kinds.ps μ-gen-expr t) gen-expr.Pre
-
-abbrev pub gen-expr-below : ℕ → In 6 gen-expr-kinds.ps
-gen-expr-below t =
-    and 6 gen-expr-kinds.ps (falls 6 gen-expr-kinds.ps ◌<◌ μ-gen-expr t) gen-expr.Pre
-
-abbrev pub gen-field-at : ℕ → In 6 gen-field-kinds.ps
-gen-field-at t = and 6 gen-field-kinds.ps (is 6 gen-field-kinds.ps μ-gen-field t) gen-field.Pre
-
-abbrev pub gen-field-below : ℕ → In 6 gen-field-kinds.ps
-gen-field-below t =
-    and 6 gen-field-kinds.ps (falls 6 gen-field-kinds.ps ◌<◌ μ-gen-field t) gen-field.Pre
-
-abbrev pub gen-inits-at : ℕ → In 7 gen-inits-kinds.ps
-gen-inits-at t = and 7 gen-inits-kinds.ps (is 7 gen-inits-kinds.ps μ-gen-inits t) gen-inits.Pre
-
-abbrev pub gen-inits-below : ℕ → In 7 gen-inits-kinds.ps
-gen-inits-below t =
-    and 7 gen-inits-kinds.ps (falls 7 gen-inits-kinds.ps ◌<◌ μ-gen-inits t) gen-inits.Pre
-
-abbrev pub gen-list-at : ℕ → In 7 gen-list-kinds.ps
-gen-list-at t = and 7 gen-list-kinds.ps (is 7 gen-list-kinds.ps μ-gen-list t) gen-list.Pre
-
-abbrev pub gen-list-below : ℕ → In 7 gen-list-kinds.ps
-gen-list-below t =
-    and 7 gen-list-kinds.ps (falls 7 gen-list-kinds.ps ◌<◌ μ-gen-list t) gen-list.Pre
-
-abbrev pub gen-literal-at : ℕ → In 6 gen-literal-kinds.ps
-gen-literal-at t =
-    and 6 gen-literal-kinds.ps (is 6 gen-literal-kinds.ps μ-gen-literal t) gen-literal.Pre
-
-abbrev pub gen-literal-below : ℕ → In 6 gen-literal-kinds.ps
-gen-literal-below t =
-    and 6 gen-literal-kinds.ps (falls 6 gen-literal-kinds.ps ◌<◌ μ-gen-literal t) gen-literal.Pre
-
-abbrev pub gen-mapping-at : ℕ → In 6 gen-mapping-kinds.ps
-gen-mapping-at t =
-    and 6 gen-mapping-kinds.ps (is 6 gen-mapping-kinds.ps μ-gen-mapping t) gen-mapping.Pre
-
-abbrev pub gen-mapping-below : ℕ → In 6 gen-mapping-kinds.ps
-gen-mapping-below t =
-    and 6 gen-mapping-kinds.ps (falls 6 gen-mapping-kinds.ps ◌<◌ μ-gen-mapping t) gen-mapping.Pre
-
-abbrev pub gen-merkle-at : ℕ → In 6 gen-merkle-kinds.ps
-gen-merkle-at t =
-    and 6 gen-merkle-kinds.ps (is 6 gen-merkle-kinds.ps μ-gen-merkle t) gen-merkle.Pre
-
-abbrev pub gen-merkle-below : ℕ → In 6 gen-merkle-kinds.ps
-gen-merkle-below t =
-    and 6 gen-merkle-kinds.ps (falls 6 gen-merkle-kinds.ps ◌<◌ μ-gen-merkle t) gen-merkle.Pre
-
-abbrev pub gen-poseidon-at : ℕ → In 6 gen-poseidon-kinds.ps
-gen-poseidon-at t =
-    and 6 gen-poseidon-kinds.ps (is 6 gen-poseidon-kinds.ps μ-gen-poseidon t) gen-poseidon.Pre
-
-abbrev pub gen-poseidon-below : ℕ → In 6 gen-poseidon-kinds.ps
-gen-poseidon-below t =
-    and
-    6
-    gen-poseidon-kinds.ps
-    (falls 6 gen-poseidon-kinds.ps ◌<◌ μ-gen-poseidon t)
-    gen-poseidon.Pre
-
-abbrev pub gen-user-at : ℕ → In 6 gen-user-kinds.ps
-gen-user-at t = and 6 gen-user-kinds.ps (is 6 gen-user-kinds.ps μ-gen-user t) gen-user.Pre
-
-abbrev pub gen-user-below : ℕ → In 6 gen-user-kinds.ps
-gen-user-below t =
-    and 6 gen-user-kinds.ps (falls 6 gen-user-kinds.ps ◌<◌ μ-gen-user t) gen-user.Pre
-
 pub gen_args-loop-v-init : goal.gen_args-loop-v-init
-gen_args-loop-v-init t c = gather_begin _ _ _ _ _ c.requires.1.1
+gen_args-loop-v-init t c = gather_begin _ _ _ _ _ c.requires.1
 
 pub gen_args-loop-v-smaller : goal.gen_args-loop-v-smaller
 gen_args-loop-v-smaller t c = omega (arith, c.loop-v-test.true, ap (λ (x : Several). x.count) c.keep-v.ensures.0)
 
 pub gen_args-loop-v-preserved : goal.gen_args-loop-v-preserved
-gen_args-loop-v-preserved t c = args_go c.args.img.now _ _ _ c.args.rules c.args.scope.now c.args.d c.args.e c.loop-v.invariant c.loop-v-test.true c.if-p-e.true c.gen_expr-a.ensures c.keep-v.ensures.0 c.keep-v.ensures.1 c.past-p.ensures.0 (c.gen_expr-a.auto.0, c.gen_expr-a.auto.1.0)
+gen_args-loop-v-preserved t c = args_go c.args.img.now _ _ _ c.args.rules c.args.scope.now c.args.d c.args.e c.loop-v.invariant c.loop-v-test.true c.if-p-e.true c.gen_expr-a.ensures c.keep-v.ensures.0 c.keep-v.ensures.1 c.past-p.ensures.0 (c.gen_expr-a.auto.code, c.gen_expr-a.auto.bytes)
 
 pub gen_args-shape_of-code-else-p-e : goal.gen_args-shape_of-code-else-p-e
 gen_args-shape_of-code-else-p-e t c = c.loop-v.invariant.room.0
@@ -275,19 +107,19 @@ unfolding kind_of pick
 gen_expr-returns-in_default t c = by_kind c.args.img.now c.args.scope.now c.args.rules c.args.st _ _ _ _ _ _ kOther c.if-d-eq0.false c.kind.ensures.0 (kind_other c.kind.result c.in_default.in_default-own.rest.0.0.0.0.0.0.0.1 c.in_default.in_default-own.rest.0.0.0.0.0.0.1 c.in_default.in_default-own.rest.0.0.0.0.0.1 c.in_default.in_default-own.rest.0.0.0.0.1 c.in_default.in_default-own.rest.0.0.0.1 c.in_default.in_default-own.rest.0.0.1 c.in_default.in_default-own.rest.0.1 c.in_default.in_default-own.rest.1) (other_value c.args.img.now c.args.scope.now c.args.rules c.args.st _ _ _ _ c.with-in_default.ensures)
 
 pub gen_field-offset_at-offset-requires : goal.gen_field-offset_at-offset-requires
-gen_field-offset_at-offset-requires t c = (c.requires.1, c.past.ensures.0 ∙ ap (after c.args.img.now) c.body-base.ensures.0)
+gen_field-offset_at-offset-requires t c = (c.requires, c.past.ensures.0 ∙ ap (after c.args.img.now) c.body-base.ensures.0)
 
 pub gen_field-returns : goal.gen_field-returns
 gen_field-returns t c = field_value c.args.img.now c.args.scope.now c.args.rules c.args.st _ _ _ _ _ _ _ _ _ _ c.body-base.ensures.0 c.past.ensures.0 c.offset_at-offset.ensures c.gen_expr-a.ensures c.emit_new.ensures
 
 pub gen_inits-loop-v-init : goal.gen_inits-loop-v-init
-gen_inits-loop-v-init t c = gather_begin _ _ _ _ _ c.requires.1.1
+gen_inits-loop-v-init t c = gather_begin _ _ _ _ _ c.requires.1
 
 pub gen_inits-loop-v-smaller : goal.gen_inits-loop-v-smaller
 gen_inits-loop-v-smaller t c = omega (arith, c.loop-v-test.true, ap (λ (x : Several). x.count) c.keep-v.ensures.0)
 
 pub gen_inits-loop-v-preserved : goal.gen_inits-loop-v-preserved
-gen_inits-loop-v-preserved t c = inits_go c.args.img.now _ _ _ c.args.rules c.args.scope.now c.args.d c.args.e c.loop-v.invariant c.loop-v-test.true c.if-p-e.true c.gen_expr-a.ensures (rw c.body.ensures.0 at c.past-q.ensures.0) c.keep-v.ensures.0 c.keep-v.ensures.1 c.past-p.ensures.0 (c.gen_expr-a.auto.0, c.gen_expr-a.auto.1.0)
+gen_inits-loop-v-preserved t c = inits_go c.args.img.now _ _ _ c.args.rules c.args.scope.now c.args.d c.args.e c.loop-v.invariant c.loop-v-test.true c.if-p-e.true c.gen_expr-a.ensures (rw c.body.ensures.0 at c.past-q.ensures.0) c.keep-v.ensures.0 c.keep-v.ensures.1 c.past-p.ensures.0 (c.gen_expr-a.auto.code, c.gen_expr-a.auto.bytes)
 
 pub gen_inits-shape_of-code-else-p-e : goal.gen_inits-shape_of-code-else-p-e
 gen_inits-shape_of-code-else-p-e t c = c.loop-v.invariant.room.0
@@ -323,13 +155,13 @@ pub gen_poseidon-returns : goal.gen_poseidon-returns
 gen_poseidon-returns t c = poseidon_value c.args.img.now c.args.scope.now c.args.rules c.args.st _ _ _ _ _ _ _ _ c.reg_at.result c.reg_at-2.result c.gen_list-v.ensures c.reg_at.ensures c.reg_at-2.ensures c.combine.ensures
 
 pub gen_user-function_index-f-requires : goal.gen_user-function_index-f-requires
-gen_user-function_index-f-requires t c = c.requires.1.0
+gen_user-function_index-f-requires t c = c.requires.0
 
 pub gen_user-shape_of-code : goal.gen_user-shape_of-code
-gen_user-shape_of-code t c = c.close_call.auto.0 ∙ c.gen_list-v.auto.0 ∙ c.push_up-a.auto.0
+gen_user-shape_of-code t c = c.close_call.auto.code ∙ c.gen_list-v.auto.code ∙ c.push_up-a.auto.code
 
 pub gen_user-shape_of-bytes : goal.gen_user-shape_of-bytes
-gen_user-shape_of-bytes t c = c.close_call.auto.1.0 ∙ c.gen_list-v.auto.1.0 ∙ c.push_up-a.auto.1.0
+gen_user-shape_of-bytes t c = c.close_call.auto.bytes ∙ c.gen_list-v.auto.bytes ∙ c.push_up-a.auto.bytes
 
 pub gen_user-returns : goal.gen_user-returns
 gen_user-returns t c = user_value c.args.img.now c.args.scope.now c.args.rules c.args.st _ _ _ _ _ _ _ _ _ _ _ _ _ c.less_one.ensures c.push_up-a.ensures c.gen_list-v.ensures c.body.ensures.0 c.function_index-f.ensures c.close_call.ensures

@@ -1,65 +1,53 @@
--- The cycle {gen_args, gen_binary, gen_call, gen_expr, gen_field, gen_inits, gen_list, gen_literal, gen_mapping, gen_merkle, gen_poseidon, gen_user}: the needs of each member are in a file of its own.
-use Rattle.expr.proofs.+gen_args_gen_binary_gen_call_gen_expr_gen_field_gen_inits_gen_list_gen_literal_gen_mapping_gen_merkle_gen_poseidon_gen_user.{statement}
-use Prim.Native.Nat.{ℕ, ◌+◌, ◌*◌, ◌<◌}
-use borrow.Fn.Kinds.{In}
-use borrow.Fn.PlainCycle.{Measures, is, falls, and}
-use Rattle.expr.proofs.gen_args.Kinds as gen-args-kinds
-use Rattle.expr.proofs.gen_binary.Kinds as gen-binary-kinds
-use Rattle.expr.proofs.gen_call.Kinds as gen-call-kinds
-use Rattle.expr.proofs.gen_expr.Kinds as gen-expr-kinds
-use Rattle.expr.proofs.gen_field.Kinds as gen-field-kinds
-use Rattle.expr.proofs.gen_inits.Kinds as gen-inits-kinds
-use Rattle.expr.proofs.gen_list.Kinds as gen-list-kinds
-use Rattle.expr.proofs.gen_literal.Kinds as gen-literal-kinds
-use Rattle.expr.proofs.gen_mapping.Kinds as gen-mapping-kinds
-use Rattle.expr.proofs.gen_merkle.Kinds as gen-merkle-kinds
-use Rattle.expr.proofs.gen_poseidon.Kinds as gen-poseidon-kinds
-use Rattle.expr.proofs.gen_user.Kinds as gen-user-kinds
-use Prim.Native.Nat.{ℕ}
-use Prim.Native.Nat.{◌+◌}
+-- The cycle {gen_args, gen_binary, gen_call, gen_expr, gen_field, gen_inits, gen_list, gen_literal, gen_mapping, gen_merkle, gen_poseidon, gen_user} meets its contracts; each answer begins with the name of its function.
+use Prim.Native.Nat.{◌+◌, ◌*◌, ◌-◌}
 use Rattle.emit.specs.Sinks.{sinks}
-use mathlib.Core.Path.{ap}
-use borrow.Author.Tests.{ltb-true, ltb-false}
-use Rattle.expr.specs.declared.steps.Several.{Several}
-use Rattle.expr.proofs.Walk.{args_full, args_end}
-use Rattle.expr.proofs.Loops.{Gathering, gather_begin, args_from, args_go, gather_end}
-use Prim.Native.Nat.{ℕ, ◌-◌}
-use native.Mathlib.Omega.{arith}
-use borrow.Author.Rules.{rules}
-use Rattle.expr.proofs.Walk.{binary_value}
-use Rattle.rules.specs.Emit.{opcode}
-use Rattle.rules.specs.Read.{bin_op_of}
-use mathlib.Core.Path.{ap, ◌∙◌}
-use Rattle.expr.proofs.Walk.{call_value, as_sender, as_nonce, as_number}
-use Rattle.expr.specs.Names.{builtin_of}
-use Rattle.rules.specs.Builtins.{Builtin}
-use mathlib.Core.Option.{none, some}
-use mathlib.Core.Path.{sym, ap, ◌∙◌}
-use Rattle.expr.proofs.Walk.{at_zero, kind_other, no_value, other_value, by_kind}
-use Rattle.rules.specs.Read.{kInt, kIdent, kStorage, kMapping, kAccess, kLiteral, kBinary, kCall, kOther, kind_of}
-use Rattle.rules.specs.Bytes.{pick}
-use Rattle.expr.proofs.Walk.{field_value}
-use Rattle.rules.specs.Bytes.{after}
-use mathlib.Core.Path.{◌∙◌, ap}
-use Rattle.expr.proofs.Walk.{inits_full, inits_end}
-use Rattle.expr.proofs.Loops.{Gathering, gather_begin, inits_from_lem, inits_go, gather_end}
-use Rattle.expr.proofs.Walk.{args_at}
-use Rattle.expr.proofs.Walk.{literal_value}
-use Rattle.expr.proofs.Walk.{mapping_value}
-use Rattle.expr.proofs.Walk.{merkle_value}
-use Rattle.expr.proofs.Walk.{poseidon_value}
-use Rattle.expr.proofs.Walk.{user_value}
-use mathlib.Core.Path.{◌∙◌}
+use Rattle.expr.proofs.Loops.{Gathering, args_from, inits_from_lem}
 use Rattle.expr.proofs.+gen_args_gen_binary_gen_call_gen_expr_gen_field_gen_inits_gen_list_gen_literal_gen_mapping_gen_merkle_gen_poseidon_gen_user.Given as goal
 
-abbrev pub gen_args-invariant-loop-v : goal.gen_args-invariant-loop-v
-gen_args-invariant-loop-v l = Gathering l.img (sinks l.initial.code l.initial.bytes) l.initial.v.st (args_from l.img l.rules l.scope l.d l.e 0 l.first l.initial.v.st.next) (sinks l.code l.bytes) l.vals l.v (args_from l.img l.rules l.scope l.d l.e l.v.count l.p l.v.st.next)
+abbrev pub invariant-gen_args-loop-v : goal.invariant-gen_args-loop-v
+invariant-gen_args-loop-v l = Gathering l.img (sinks l.initial.code l.initial.bytes) l.initial.v.st (args_from l.img l.rules l.scope l.d l.e 0 l.first l.initial.v.st.next) (sinks l.code l.bytes) l.vals l.v (args_from l.img l.rules l.scope l.d l.e l.v.count l.p l.v.st.next)
 
-abbrev pub gen_args-decreases-loop-v : goal.gen_args-decreases-loop-v
-gen_args-decreases-loop-v l = 64 - l.v.count
+abbrev pub decreases-gen_args-loop-v : goal.decreases-gen_args-loop-v
+decreases-gen_args-loop-v l = 64 - l.v.count
 
-abbrev pub gen_inits-invariant-loop-v : goal.gen_inits-invariant-loop-v
-gen_inits-invariant-loop-v l = Gathering l.img (sinks l.initial.code l.initial.bytes) l.initial.v.st (inits_from_lem l.img l.rules l.scope l.d l.e 0 l.first l.initial.v.st.next) (sinks l.code l.bytes) l.vals l.v (inits_from_lem l.img l.rules l.scope l.d l.e l.v.count l.p l.v.st.next)
+abbrev pub invariant-gen_inits-loop-v : goal.invariant-gen_inits-loop-v
+invariant-gen_inits-loop-v l = Gathering l.img (sinks l.initial.code l.initial.bytes) l.initial.v.st (inits_from_lem l.img l.rules l.scope l.d l.e 0 l.first l.initial.v.st.next) (sinks l.code l.bytes) l.vals l.v (inits_from_lem l.img l.rules l.scope l.d l.e l.v.count l.p l.v.st.next)
 
-abbrev pub gen_inits-decreases-loop-v : goal.gen_inits-decreases-loop-v
-gen_inits-decreases-loop-v l = 64 - l.v.count
+abbrev pub decreases-gen_inits-loop-v : goal.decreases-gen_inits-loop-v
+decreases-gen_inits-loop-v l = 64 - l.v.count
+
+abbrev pub decreases-gen_args : goal.decreases-gen_args
+decreases-gen_args l = 100 * l.d + 1
+
+abbrev pub decreases-gen_binary : goal.decreases-gen_binary
+decreases-gen_binary l = 100 * l.d + 70
+
+abbrev pub decreases-gen_call : goal.decreases-gen_call
+decreases-gen_call l = 100 * l.d + 80
+
+abbrev pub decreases-gen_expr : goal.decreases-gen_expr
+decreases-gen_expr l = 100 * l.d
+
+abbrev pub decreases-gen_field : goal.decreases-gen_field
+decreases-gen_field l = 100 * l.d + 70
+
+abbrev pub decreases-gen_inits : goal.decreases-gen_inits
+decreases-gen_inits l = 100 * l.d + 1
+
+abbrev pub decreases-gen_list : goal.decreases-gen_list
+decreases-gen_list l = 100 * l.d + 66
+
+abbrev pub decreases-gen_literal : goal.decreases-gen_literal
+decreases-gen_literal l = 100 * l.d + 70
+
+abbrev pub decreases-gen_mapping : goal.decreases-gen_mapping
+decreases-gen_mapping l = 100 * l.d + 70
+
+abbrev pub decreases-gen_merkle : goal.decreases-gen_merkle
+decreases-gen_merkle l = 100 * l.d + 70
+
+abbrev pub decreases-gen_poseidon : goal.decreases-gen_poseidon
+decreases-gen_poseidon l = 100 * l.d + 70
+
+abbrev pub decreases-gen_user : goal.decreases-gen_user
+decreases-gen_user l = 100 * l.d + 70

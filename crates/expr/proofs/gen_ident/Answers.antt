@@ -1,6 +1,5 @@
 -- `gen_ident` meets its contract.
 use Rattle.expr.proofs.Walk.{ident}
-use borrow.Author.Rules.{rules}
 use Rattle.expr.proofs.gen_ident.Goals as goal
 
 -- src/lib.rt:65:1

@@ -1,6 +1,5 @@
 -- `gen_int` meets its contract.
 use Rattle.expr.proofs.Walk.{int_small, int_big}
-use borrow.Author.Rules.{rules}
 use Rattle.expr.proofs.gen_int.Goals as goal
 
 pub returns-then-v-le2147483647 : goal.returns-then-v-le2147483647

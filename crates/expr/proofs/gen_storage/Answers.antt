@@ -1,6 +1,5 @@
 -- `gen_storage` meets its contract.
 use Rattle.expr.proofs.Walk.{storage_value}
-use borrow.Author.Rules.{rules}
 use Rattle.expr.proofs.gen_storage.Goals as goal
 
 pub returns : goal.returns

@@ -1,6 +1,5 @@
 -- `local` meets its contract.
 use Rattle.expr.proofs.Asked.{finds, finds_not}
-use borrow.Author.Rules.{rules}
 use Rattle.expr.proofs.local.Goals as goal
 
 -- src/lib.rt:33:1

@@ -1,6 +1,5 @@
 -- `storage_slot` meets its contract.
 use Rattle.expr.proofs.Asked.{has_slot, no_slot}
-use borrow.Author.Rules.{rules}
 use Rattle.expr.proofs.storage_slot.Goals as goal
 
 -- src/lib.rt:43:1

@@ -1,13 +1,11 @@
 -- field_offset meets its contract.
-use Prim.Native.Nat.{◌-◌, ◌≤◌}
 use Rattle.fields.proofs.Positions.{offset_at, offset_none}
 use Rattle.fields.specs.Steps.{all, past_all}
-use Rattle.fields.specs.Spots.{spot_of, positions_from, searched}
-use Rattle.rules.specs.Layout.{layouts, with_position, positions, first_of}
+use Rattle.fields.specs.Spots.{spot_of, searched}
+use Rattle.rules.specs.Layout.{with_position, first_of}
 use Rattle.rules.specs.Read.{contract_at}
-use mathlib.Core.Path.{◌≡◌, ap, ◌∙◌}
+use mathlib.Core.Path.{ap, ◌∙◌}
 use native.Mathlib.Omega.{arith}
-use borrow.Author.Rules.{rules}
 use Rattle.fields.proofs.field_offset.Goals as goal
 
 pub loop-i-init : goal.loop-i-init

@@ -1,13 +1,9 @@
 -- field_offset meets its contract.
 use Prim.Native.Nat.{◌-◌, ◌≤◌}
-use Rattle.fields.proofs.Positions.{offset_at, offset_none}
-use Rattle.fields.specs.Steps.{all, past_all}
-use Rattle.fields.specs.Spots.{spot_of, positions_from, searched}
-use Rattle.rules.specs.Layout.{layouts, with_position, positions, first_of}
+use Rattle.fields.specs.Spots.{positions_from}
+use Rattle.rules.specs.Layout.{layouts, positions, first_of}
 use Rattle.rules.specs.Read.{contract_at}
-use mathlib.Core.Path.{◌≡◌, ap, ◌∙◌}
-use native.Mathlib.Omega.{arith}
-use borrow.Author.Rules.{rules}
+use mathlib.Core.Path.{◌≡◌}
 use Rattle.fields.proofs.field_offset.Given as goal
 
 abbrev pub invariant-loop-i : goal.invariant-loop-i

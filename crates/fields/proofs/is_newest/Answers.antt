@@ -2,7 +2,6 @@
 use Rattle.fields.proofs.Kept.{newest, newest_none}
 use Rattle.tables.specs.Listed.{index_of}
 use mathlib.Core.Path.{sym, ap, ◌∙◌}
-use borrow.Author.Rules.{rules}
 use Rattle.fields.proofs.is_newest.Goals as goal
 
 pub returns-in-At : goal.returns-in-At

@@ -4,7 +4,6 @@ use native.Mathlib.Omega.{arith}
 use Rattle.notes.specs.Notes.{note_of}
 use Rattle.notes.specs.Left.{note_few, offset_one, offset_none}
 use Rattle.fields.specs.Spots.{searched}
-use borrow.Author.Rules.{rules}
 use Rattle.fields.proofs.offset_at.Goals as goal
 
 pub overflow_mul-result : goal.overflow_mul-result

@@ -1,15 +1,10 @@
 -- position meets its contract.
 use Prim.Native.Nat.{◌-◌, ◌≤◌}
-use Rattle.fields.proofs.Positions.{found_at, found_none}
-use Rattle.fields.specs.Steps.{field_zero, field_end, field_here, field_next}
 use Rattle.rules.specs.Read.{places_from, field_at, fields_at}
 use Rattle.rules.specs.Tables.{first_index}
 use Rattle.rules.specs.Tree.{Field}
-use borrow.Author.Tests.{ltb-true, ltb-false}
 use mathlib.Core.List.{map}
-use mathlib.Core.Path.{◌≡◌, sym, ◌∙◌}
-use native.Mathlib.Omega.{arith}
-use borrow.Author.Rules.{rules}
+use mathlib.Core.Path.{◌≡◌}
 use Rattle.fields.proofs.position.Given as goal
 
 abbrev pub invariant-loop-n : goal.invariant-loop-n

@@ -2,7 +2,6 @@
 use Rattle.fields.proofs.Positions.{placed_kept, placed_replaced, placed_lacking}
 use Rattle.rules.specs.Bytes.{inside}
 use mathlib.Core.Path.{ap, ◌∙◌}
-use borrow.Author.Rules.{rules}
 use Rattle.fields.proofs.position_at.Goals as goal
 
 pub is_newest-requires : goal.is_newest-requires

@@ -1,10 +1,7 @@
 -- `lent::clear_bytes` meets its contract, by the laws of `Clear.antt`.
-use mathlib.Core.Path.{refl}
 use Prim.Native.Nat.{◌-◌}
-use native.Mathlib.Omega.{arith}
-use borrow.Author.Rules.{rules}
 use lib.ListN.{length}
-use Rattle.lent.proofs.Clear.{Cleared, long, more, all}
+use Rattle.lent.proofs.Clear.{Cleared}
 use Rattle.lent.proofs.clear_bytes.Given as goal
 
 abbrev pub invariant-loop-k : goal.invariant-loop-k

@@ -1,7 +1,6 @@
 -- `lay_byte` meets its contract.
 use mathlib.Core.Path.{sym}
 use lib.Seq.{set_out}
-use borrow.Author.Rules.{rules}
 use Rattle.lent.proofs.lay_byte.Goals as goal
 
 pub returns-else-i-s : goal.returns-else-i-s

@@ -2,7 +2,6 @@
 use Prim.Native.Nat.{◌*◌}
 use Rattle.rules.specs.Lent.{word_bytes}
 use Rattle.lent.specs.Words.{stores}
-use borrow.Author.Rules.{rules}
 use Rattle.lent.proofs.lay_part.Goals as goal
 
 pub returns : goal.returns

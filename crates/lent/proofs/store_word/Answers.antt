@@ -1,7 +1,6 @@
 -- `lent::store_word` meets its contract: eight stores in a row are the word's bytes, laid from the first place on.
 use Prim.Native.Nat.{◌*◌}
 use native.Mathlib.Omega.{arith}
-use borrow.Author.Rules.{rules}
 use lib.ListN.{length-set}
 use Rattle.lent.specs.Words.{stores}
 use Rattle.rules.specs.Lent.{word_bytes}

@@ -2,7 +2,6 @@
 use mathlib.Core.Path.{◌∙◌, ap}
 use Prim.Native.Nat.{ℕ}
 use lib.ListN.{get_or-eq_default}
-use borrow.Author.Rules.{rules}
 use Rattle.rules.specs.Bytes.{pick}
 use Rattle.notes.specs.Notes.{note_of, read_as_lem, note_at}
 use Rattle.notes.proofs.get.Goals as goal

@@ -1,5 +1,4 @@
 -- read meets its contract.
-use borrow.Author.Rules.{rules}
 use borrow.Author.Tests.{eq-eqb, ne_eqb}
 use Rattle.rules.specs.Bytes.{pick}
 use Rattle.notes.specs.Notes.{note_of, read_as_lem}

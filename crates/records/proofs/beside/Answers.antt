@@ -1,6 +1,5 @@
 -- beside meets its contract.
 use Rattle.records.specs.Cells.{beside}
-use borrow.Author.Rules.{rules}
 use Rattle.records.proofs.beside.Goals as goal
 
 pub returns : goal.returns

@@ -1,7 +1,6 @@
 -- body meets its contract.
 use native.Mathlib.Omega.{arith}
 use Rattle.rules.specs.Bytes.{inside}
-use borrow.Author.Rules.{rules}
 use Rattle.records.proofs.body.Goals as goal
 
 pub returns-then-n-i-ge6 : goal.returns-then-n-i-ge6

@@ -1,10 +1,8 @@
 -- `records::count` meets its contract: after n records the rest is still to be counted.
-use Prim.Native.Nat.{◌+◌, ◌-◌, ◌≤◌}
-use borrow.Author.Rules.{rules}
+use Prim.Native.Nat.{◌-◌}
 use lib.ListN.{length}
-use mathlib.Core.Path.{◌∙◌, ◌≡◌, sym, ap}
+use mathlib.Core.Path.{◌∙◌, ◌≡◌, ap}
 use native.Mathlib.Omega.{arith}
-use Rattle.rules.specs.Read.{places_from}
 use Rattle.records.specs.Places.{places_end, places_zero, counted}
 use Rattle.records.proofs.count.Goals as goal
 

@@ -1,11 +1,8 @@
 -- `records::count` meets its contract: after n records the rest is still to be counted.
 use Prim.Native.Nat.{◌+◌, ◌-◌, ◌≤◌}
-use borrow.Author.Rules.{rules}
 use lib.ListN.{length}
-use mathlib.Core.Path.{◌∙◌, ◌≡◌, sym, ap}
-use native.Mathlib.Omega.{arith}
+use mathlib.Core.Path.{◌≡◌}
 use Rattle.rules.specs.Read.{places_from}
-use Rattle.records.specs.Places.{places_end, places_zero, counted}
 use Rattle.records.proofs.count.Given as goal
 
 abbrev pub invariant-loop-n : goal.invariant-loop-n

@@ -2,7 +2,6 @@
 use mathlib.Core.Path.{sym}
 use native.Mathlib.Omega.{arith}
 use Rattle.records.proofs.Outside.{word_out, word_one, word_two, word_three}
-use borrow.Author.Rules.{rules}
 use Rattle.records.proofs.few.Goals as goal
 
 pub returns-then-n-eq0 : goal.returns-then-n-eq0

@@ -1,6 +1,5 @@
 -- int meets its contract.
 use Rattle.rules.specs.Bytes.{le64, int_at}
-use borrow.Author.Rules.{rules}
 use Rattle.records.proofs.int.Goals as goal
 
 pub returns-then-img-p-lt8 : goal.returns-then-img-p-lt8

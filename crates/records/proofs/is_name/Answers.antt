@@ -1,5 +1,4 @@
 -- is_name meets its contract.
-use borrow.Author.Rules.{rules}
 use Rattle.records.proofs.is_name.Goals as goal
 
 pub returns : goal.returns

@@ -3,7 +3,6 @@ use mathlib.Core.Path.{◌∙◌}
 use native.Mathlib.Omega.{arith}
 use Rattle.records.specs.Small.{kind_bytes}
 use Rattle.records.proofs.Outside.{kind_near}
-use borrow.Author.Rules.{rules}
 use Rattle.records.proofs.kind.Goals as goal
 
 pub returns-then-n-i-ge6 : goal.returns-then-n-i-ge6

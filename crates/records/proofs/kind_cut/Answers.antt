@@ -1,7 +1,6 @@
 -- kind_cut meets its contract.
 use native.Mathlib.Omega.{arith}
 use Rattle.records.specs.Small.{kind_bytes}
-use borrow.Author.Rules.{rules}
 use Rattle.records.proofs.kind_cut.Goals as goal
 
 pub returns : goal.returns

@@ -5,7 +5,6 @@ use mathlib.Core.Path.{◌≡◌, refl}
 use mathlib.Core.List.{List}
 use lib.ListN.{take, drop}
 use Rattle.rules.specs.Bytes.{inside, after, name_at}
-use borrow.Author.Rules.{rules}
 use Rattle.records.proofs.name.Goals as goal
 
 -- the bytes between a record's payload and its end

@@ -1,5 +1,4 @@
 -- name_key meets its contract.
-use borrow.Author.Rules.{rules}
 use Rattle.records.proofs.name_key.Goals as goal
 
 pub returns : goal.returns

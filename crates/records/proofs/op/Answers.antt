@@ -1,6 +1,5 @@
 -- op meets its contract.
 use Rattle.rules.specs.Bytes.{op_at}
-use borrow.Author.Rules.{rules}
 use Rattle.records.proofs.op.Goals as goal
 
 pub returns : goal.returns

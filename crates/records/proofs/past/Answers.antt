@@ -1,7 +1,6 @@
 -- past meets its contract.
 use native.Mathlib.Omega.{arith}
 use Rattle.rules.specs.Bytes.{after}
-use borrow.Author.Rules.{rules}
 use Rattle.records.proofs.past.Goals as goal
 
 pub returns-then-size-left : goal.returns-then-size-left

@@ -1,7 +1,6 @@
 -- same meets its contract.
 use Rattle.records.specs.Names.{apart}
 use lib.ListN.{length}
-use borrow.Author.Rules.{rules}
 use Rattle.records.proofs.same.Goals as goal
 
 pub returns-then-a-b : goal.returns-then-a-b

@@ -1,11 +1,8 @@
 -- same_few meets its contract.
-use mathlib.Core.Path.{◌≡◌}
-use Prim.Native.Nat.{ℕ, ◌-◌, ◌<◌, ◌≤◌}
-use lib.ListN.{length, get_or}
+use lib.ListN.{get_or}
 use native.Mathlib.Omega.{arith}
 use Rattle.records.specs.Names.{apart, agree}
 use Rattle.records.proofs.Eights.{more}
-use borrow.Author.Rules.{rules}
 use Rattle.records.proofs.same_few.Goals as goal
 
 pub loop-i-init : goal.loop-i-init

@@ -2,10 +2,6 @@
 use mathlib.Core.Path.{◌≡◌}
 use Prim.Native.Nat.{ℕ, ◌-◌, ◌<◌, ◌≤◌}
 use lib.ListN.{length, get_or}
-use native.Mathlib.Omega.{arith}
-use Rattle.records.specs.Names.{apart, agree}
-use Rattle.records.proofs.Eights.{more}
-use borrow.Author.Rules.{rules}
 use Rattle.records.proofs.same_few.Given as goal
 
 abbrev pub invariant-loop-i : goal.invariant-loop-i

@@ -6,7 +6,6 @@ use lib.ListN.{length}
 use Prim.Native.Nat.{◌-◌}
 use mathlib.Core.Path.{sym, ◌∙◌}
 use Rattle.rules.specs.Bytes.{le32}
-use borrow.Author.Rules.{rules}
 use Rattle.records.proofs.same_four.Goals as goal
 
 pub returns-then-word_in : goal.returns-then-word_in

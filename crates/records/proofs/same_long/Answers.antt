@@ -1,8 +1,8 @@
 -- same_long meets its contract.
 use Rattle.rules.specs.Bytes.{le64}
-use mathlib.Core.Path.{◌≡◌, sym, ◌∙◌}
-use Prim.Native.Nat.{ℕ, ◌-◌, ◌<◌, ◌≤◌}
-use lib.ListN.{length, get_or}
+use mathlib.Core.Path.{sym, ◌∙◌}
+use Prim.Native.Nat.{◌-◌}
+use lib.ListN.{length}
 use native.Mathlib.Omega.{arith}
 use Rattle.records.specs.Names.{apart}
 use Rattle.records.proofs.Eights.{more8, whole}

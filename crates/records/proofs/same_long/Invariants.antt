@@ -1,11 +1,7 @@
 -- same_long meets its contract.
-use Rattle.rules.specs.Bytes.{le64}
-use mathlib.Core.Path.{◌≡◌, sym, ◌∙◌}
+use mathlib.Core.Path.{◌≡◌}
 use Prim.Native.Nat.{ℕ, ◌-◌, ◌<◌, ◌≤◌}
 use lib.ListN.{length, get_or}
-use native.Mathlib.Omega.{arith}
-use Rattle.records.specs.Names.{apart}
-use Rattle.records.proofs.Eights.{more8, whole}
 use Rattle.records.proofs.same_long.Given as goal
 
 abbrev pub invariant-loop-i : goal.invariant-loop-i

@@ -1,5 +1,4 @@
 -- same_name meets its contract.
-use borrow.Author.Rules.{rules}
 use Rattle.records.proofs.same_name.Goals as goal
 
 pub returns : goal.returns

@@ -1,7 +1,6 @@
 -- within meets its contract.
 use native.Mathlib.Omega.{arith}
 use Rattle.records.proofs.Outside.{name_near}
-use borrow.Author.Rules.{rules}
 use Rattle.records.proofs.within.Goals as goal
 
 pub returns : goal.returns

@@ -1,7 +1,6 @@
 -- word32 meets its contract.
 use mathlib.Core.Path.{◌∙◌}
 use Rattle.records.proofs.Outside.{word_near}
-use borrow.Author.Rules.{rules}
 use Rattle.records.proofs.word32.Goals as goal
 
 pub returns-then-n-j-lt4 : goal.returns-then-n-j-lt4

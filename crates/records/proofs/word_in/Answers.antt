@@ -1,7 +1,6 @@
 -- word_in meets its contract.
 use native.Mathlib.Omega.{arith}
 use Rattle.records.specs.Small.{word_bytes}
-use borrow.Author.Rules.{rules}
 use Rattle.records.proofs.word_in.Goals as goal
 
 pub returns : goal.returns

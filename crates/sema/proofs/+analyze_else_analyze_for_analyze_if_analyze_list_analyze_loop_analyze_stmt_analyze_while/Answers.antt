@@ -1,106 +1,21 @@
 -- +analyze_else_analyze_for_analyze_if_analyze_list_analyze_loop_analyze_stmt_analyze_while meets its contract.
 use Rattle.rules.specs.Meant.{of_stmt, of_stmts}
-use Prim.Native.Nat.{◌*◌, ◌+◌, ◌-◌, ◌≤◌}
+use Prim.Native.Nat.{◌-◌}
 use Rattle.bounds.specs.Sizes.{vars, vars-stmts}
 use Rattle.lookup.specs.Answers.{ty_of, typed_of}
 use Rattle.lookup.specs.Scope.{pushed_env}
 use Rattle.rules.specs.Analyse.{stmt, stmts}
 use Rattle.rules.specs.Bytes.{pick}
-use Rattle.rules.specs.Read.{body_at, expr_at, sFor, sIf, sLet, sWhile, stmt_as, stmt_at_lem, stmt_kind_of, stmts_from}
+use Rattle.rules.specs.Read.{expr_at, sFor, sIf, sLet, sWhile, stmt_as, stmt_at_lem, stmt_kind_of}
 use Rattle.sema.proofs.Runs.{first_bad, first_ok, for_bad, for_done, in_top, step_bad, step_then, still_ok}
 use Rattle.sema.proofs.Trees.{else_not, else_there, stmt_kind, stmt_zero, stmts_end, stmts_more, stmts_zero, vars_for, vars_if, vars_let, vars_more, vars_while}
-use Rattle.sema.specs.Steps.{Steps, in_loop}
-use Rattle.sema.specs.declared.After.{After}
-use borrow.Author.Rules.{rules}
-use lib.ListN.{length}
-use mathlib.Core.List.{List}
-use mathlib.Core.Path.{◌∙◌, ◌≡◌, ap, refl, sym}
+use Rattle.sema.specs.Steps.{in_loop}
+use mathlib.Core.Path.{◌∙◌, ap, refl, sym}
 use native.Mathlib.Omega.{arith}
-use Prim.Native.Nat.{ℕ, ◌<◌}
-use borrow.Fn.Kinds.{In}
-use borrow.Fn.PlainCycle.{Measures, is, falls, and}
-use Rattle.sema.proofs.analyze_else.Kinds as analyze-else-kinds
-use Rattle.sema.proofs.analyze_for.Kinds as analyze-for-kinds
-use Rattle.sema.proofs.analyze_if.Kinds as analyze-if-kinds
-use Rattle.sema.proofs.analyze_list.Kinds as analyze-list-kinds
-use Rattle.sema.proofs.analyze_loop.Kinds as analyze-loop-kinds
-use Rattle.sema.proofs.analyze_stmt.Kinds as analyze-stmt-kinds
-use Rattle.sema.proofs.analyze_while.Kinds as analyze-while-kinds
-use Rattle.sema.proofs.+analyze_else_analyze_for_analyze_if_analyze_list_analyze_loop_analyze_stmt_analyze_while.{
 use Rattle.sema.proofs.+analyze_else_analyze_for_analyze_if_analyze_list_analyze_loop_analyze_stmt_analyze_while.Goals as goal
 
-abbrev μ-analyze-else : Measures 4 analyze-else-kinds.ps ℕ
-μ-analyze-else κs a = 6 * a.1.1.1.1.1.1.0 + 2
-
-abbrev μ-analyze-for : Measures 4 analyze-for-kinds.ps ℕ
-μ-analyze-for κs a = 6 * a.1.1.1.1.1.0 + 3
-
-abbrev μ-analyze-if : Measures 4 analyze-if-kinds.ps ℕ
-μ-analyze-if κs a = 6 * a.1.1.1.1.1.0 + 3
-
-abbrev μ-analyze-list : Measures 4 analyze-list-kinds.ps ℕ
-μ-analyze-list κs a = 6 * a.1.1.1.1.1.0 + 1
-
-abbrev μ-analyze-loop : Measures 4 analyze-loop-kinds.ps ℕ
-μ-analyze-loop κs a = 6 * a.1.1.1.1.1.1.0 + 2
-
-abbrev μ-analyze-stmt : Measures 4 analyze-stmt-kinds.ps ℕ
-μ-analyze-stmt κs a = 6 * a.1.1.1.1.1.0
-
-abbrev μ-analyze-while : Measures 4 analyze-while-kinds.ps ℕ
-μ-analyze-while κs a = 6 * a.1.1.1.1.1.0 + 3
-
-abbrev analyze-else-at : ℕ → In 4 analyze-else-kinds.ps
-analyze-else-at t = and 4 analyze-else-kinds.ps (is 4 analyze-else-kinds.ps μ-analyze-else t) analyze-else.Pre
-
-abbrev analyze-else-below : ℕ → In 4 analyze-else-kinds.ps
-analyze-else-below t =
-    and 4 analyze-else-kinds.ps (falls 4 analyze-else-kinds.ps ◌<◌ μ-analyze-else t) analyze-else.Pre
-
-abbrev analyze-for-at : ℕ → In 4 analyze-for-kinds.ps
-analyze-for-at t = and 4 analyze-for-kinds.ps (is 4 analyze-for-kinds.ps μ-analyze-for t) analyze-for.Pre
-
-abbrev analyze-for-below : ℕ → In 4 analyze-for-kinds.ps
-analyze-for-below t =
-    and 4 analyze-for-kinds.ps (falls 4 analyze-for-kinds.ps ◌<◌ μ-analyze-for t) analyze-for.Pre
-
-abbrev analyze-if-at : ℕ → In 4 analyze-if-kinds.ps
-analyze-if-at t = and 4 analyze-if-kinds.ps (is 4 analyze-if-kinds.ps μ-analyze-if t) analyze-if.Pre
-
-abbrev analyze-if-below : ℕ → In 4 analyze-if-kinds.ps
-analyze-if-below t = and 4 analyze-if-kinds.ps (falls 4 analyze-if-kinds.ps ◌<◌ μ-analyze-if t) analyze-if.Pre
-
-abbrev analyze-list-at : ℕ → In 4 analyze-list-kinds.ps
-analyze-list-at t = and 4 analyze-list-kinds.ps (is 4 analyze-list-kinds.ps μ-analyze-list t) analyze-list.Pre
-
-abbrev analyze-list-below : ℕ → In 4 analyze-list-kinds.ps
-analyze-list-below t =
-    and 4 analyze-list-kinds.ps (falls 4 analyze-list-kinds.ps ◌<◌ μ-analyze-list t) analyze-list.Pre
-
-abbrev analyze-loop-at : ℕ → In 4 analyze-loop-kinds.ps
-analyze-loop-at t = and 4 analyze-loop-kinds.ps (is 4 analyze-loop-kinds.ps μ-analyze-loop t) analyze-loop.Pre
-
-abbrev analyze-loop-below : ℕ → In 4 analyze-loop-kinds.ps
-analyze-loop-below t =
-    and 4 analyze-loop-kinds.ps (falls 4 analyze-loop-kinds.ps ◌<◌ μ-analyze-loop t) analyze-loop.Pre
-
-abbrev analyze-stmt-at : ℕ → In 4 analyze-stmt-kinds.ps
-analyze-stmt-at t = and 4 analyze-stmt-kinds.ps (is 4 analyze-stmt-kinds.ps μ-analyze-stmt t) analyze-stmt.Pre
-
-abbrev analyze-stmt-below : ℕ → In 4 analyze-stmt-kinds.ps
-analyze-stmt-below t =
-    and 4 analyze-stmt-kinds.ps (falls 4 analyze-stmt-kinds.ps ◌<◌ μ-analyze-stmt t) analyze-stmt.Pre
-
-abbrev analyze-while-at : ℕ → In 4 analyze-while-kinds.ps
-analyze-while-at t =
-    and 4 analyze-while-kinds.ps (is 4 analyze-while-kinds.ps μ-analyze-while t) analyze-while.Pre
-
-abbrev analyze-while-below : ℕ → In 4 analyze-while-kinds.ps
-analyze-while-below t =
-    and 4 analyze-while-kinds.ps (falls 4 analyze-while-kinds.ps ◌<◌ μ-analyze-while t) analyze-while.Pre
-
 pub analyze_else-analyze_list-requires : goal.analyze_else-analyze_list-requires
-analyze_else-analyze_list-requires t c = (omega arith, (c.requires.1.0, rw (else_there (stmt_at_lem c.args.d c.args.img.now) c.args.img.now c.args.at c.args.end c.if-at-end.true) at c.requires.1.1))
+analyze_else-analyze_list-requires t c = (omega arith, (c.requires.0, rw (else_there (stmt_at_lem c.args.d c.args.img.now) c.args.img.now c.args.at c.args.end c.if-at-end.true) at c.requires.1))
 
 pub analyze_else-returns-then-at-end : goal.analyze_else-returns-then-at-end
 analyze_else-returns-then-at-end t c = rw (else_there (stmt_at_lem c.args.d c.args.img.now) c.args.img.now c.args.at c.args.end c.if-at-end.true) c.analyze_list.ensures
@@ -110,13 +25,13 @@ unfolding stmts of_stmts vars-stmts
 analyze_else-returns-else-at-end t c = rw (else_not (stmt_at_lem c.args.d c.args.img.now) c.args.img.now c.args.at c.args.end c.if-at-end.false) (still_ok refl)
 
 pub analyze_for-analyze_expr-t-requires : goal.analyze_for-analyze_expr-t-requires
-analyze_for-analyze_expr-t-requires t c = c.requires.1.0
+analyze_for-analyze_expr-t-requires t c = c.requires.0
 
 pub analyze_for-analyze_expr-u-requires : goal.analyze_for-analyze_expr-u-requires
-analyze_for-analyze_expr-u-requires t c = c.requires.1.0
+analyze_for-analyze_expr-u-requires t c = c.requires.0
 
 pub analyze_for-analyze_loop-requires : goal.analyze_for-analyze_loop-requires
-analyze_for-analyze_loop-requires t c = (omega arith, (c.requires.1.0, rw (c.past.ensures.0, c.past-to.ensures.0, c.past-from.ensures.0, c.body-x.ensures.0) (omega (arith, vars_for (expr_at c.args.d c.args.img.now) (stmt_at_lem c.args.d c.args.img.now) c.args.img.now c.args.at, c.requires.1.1))))
+analyze_for-analyze_loop-requires t c = (omega arith, (c.requires.0, rw (c.past.ensures.0, c.past-to.ensures.0, c.past-from.ensures.0, c.body-x.ensures.0) (omega (arith, vars_for (expr_at c.args.d c.args.img.now) (stmt_at_lem c.args.d c.args.img.now) c.args.img.now c.args.at, c.requires.1))))
 
 pub analyze_for-returns-in-Is-u : goal.analyze_for-returns-in-Is-u
 unfolding stmt of_stmt stmt_as vars typed_of in_loop
@@ -131,13 +46,13 @@ unfolding stmt of_stmt stmt_as vars typed_of
 analyze_for-returns-in-Refused t c = first_bad _ (sym (ap (typed_of c.args.img.now) c.in-Refused.is) ∙ rw (c.past-from.ensures.0, c.body-x.ensures.0) at c.analyze_expr-t.ensures.0)
 
 pub analyze_if-analyze_expr-t-requires : goal.analyze_if-analyze_expr-t-requires
-analyze_if-analyze_expr-t-requires t c = c.requires.1.0
+analyze_if-analyze_expr-t-requires t c = c.requires.0
 
 pub analyze_if-analyze_list-a-requires : goal.analyze_if-analyze_list-a-requires
-analyze_if-analyze_list-a-requires t c = (omega arith, (c.requires.1.0, rw (c.past-then.ensures.0, c.body-test.ensures.0) (omega (arith, vars_if (expr_at c.args.d c.args.img.now) (stmt_at_lem c.args.d c.args.img.now) c.args.img.now c.args.at, c.requires.1.1))))
+analyze_if-analyze_list-a-requires t c = (omega arith, (c.requires.0, rw (c.past-then.ensures.0, c.body-test.ensures.0) (omega (arith, vars_if (expr_at c.args.d c.args.img.now) (stmt_at_lem c.args.d c.args.img.now) c.args.img.now c.args.at, c.requires.1))))
 
 pub analyze_if-analyze_else-requires : goal.analyze_if-analyze_else-requires
-analyze_if-analyze_else-requires t c = (omega (arith, c.requires.0), (c.requires.1.0, rw (c.past-end.ensures.0, c.past-other.ensures.0, c.past-then.ensures.0, c.body-test.ensures.0) (omega (arith, vars_if (expr_at c.args.d c.args.img.now) (stmt_at_lem c.args.d c.args.img.now) c.args.img.now c.args.at, c.requires.1.1, (in_top (rw (c.past-then.ensures.0, c.body-test.ensures.0) at c.analyze_list-a.ensures) c.in-Top.is).1, c.analyze_list-a.ensures.size))))
+analyze_if-analyze_else-requires t c = (omega (arith, c.requires.0), (c.requires.0, rw (c.past-end.ensures.0, c.past-other.ensures.0, c.past-then.ensures.0, c.body-test.ensures.0) (omega (arith, vars_if (expr_at c.args.d c.args.img.now) (stmt_at_lem c.args.d c.args.img.now) c.args.img.now c.args.at, c.requires.1, (in_top (rw (c.past-then.ensures.0, c.body-test.ensures.0) at c.analyze_list-a.ensures) c.in-Top.is).1, c.analyze_list-a.ensures.size))))
 
 pub analyze_if-returns-in-Top : goal.analyze_if-returns-in-Top
 unfolding stmt of_stmt stmt_as vars typed_of
@@ -152,14 +67,14 @@ unfolding stmt of_stmt stmt_as vars typed_of
 analyze_if-returns-in-Refused t c = first_bad _ (sym (ap (typed_of c.args.img.now) c.in-Refused.is) ∙ rw c.body-test.ensures.0 at c.analyze_expr-t.ensures.0)
 
 pub analyze_list-loop-k-init : goal.analyze_list-loop-k-init
-analyze_list-loop-k-init t c = (rw (c.body-p.ensures.0, c.past-end.ensures.0) c.requires.1.1, (refl, λ e2 M r s. rw (c.body-p.ensures.0, c.past-end.ensures.0) at s))
+analyze_list-loop-k-init t c = (rw (c.body-p.ensures.0, c.past-end.ensures.0) c.requires.1, (refl, λ e2 M r s. rw (c.body-p.ensures.0, c.past-end.ensures.0) at s))
 
 pub analyze_list-returns-then-end-p : goal.analyze_list-returns-then-end-p
 unfolding stmts of_stmts vars-stmts
 analyze_list-returns-then-end-p t c = c.loop-k.invariant.1.1 _ _ _ (rw (stmts_end (stmt_at_lem c.args.d c.args.img.now) c.args.img.now c.loop-k.k c.loop-k.p c.past-end.result c.if-end-p.true) (still_ok refl))
 
 pub analyze_list-analyze_stmt-a-requires : goal.analyze_list-analyze_stmt-a-requires
-analyze_list-analyze_stmt-a-requires t c = (omega arith, (c.requires.1.0, omega (arith, vars_more (stmt_at_lem c.args.d c.args.img.now) c.args.img.now c.loop-k.k c.loop-k.p c.past-end.result c.loop-k-test.true c.if-end-p.false, c.loop-k.invariant.0)))
+analyze_list-analyze_stmt-a-requires t c = (omega arith, (c.requires.0, omega (arith, vars_more (stmt_at_lem c.args.d c.args.img.now) c.args.img.now c.loop-k.k c.loop-k.p c.past-end.result c.loop-k-test.true c.if-end-p.false, c.loop-k.invariant.0)))
 
 pub analyze_list-loop-k-preserved : goal.analyze_list-loop-k-preserved
 unfolding stmts of_stmts vars-stmts
@@ -174,10 +89,10 @@ unfolding stmts of_stmts vars-stmts
 analyze_list-returns t c = c.loop-k.invariant.1.1 _ _ _ (rw (stmts_zero (stmt_at_lem c.args.d c.args.img.now) c.args.img.now c.loop-k.k c.loop-k.p c.past-end.result c.loop-k-test.false) (still_ok refl))
 
 pub analyze_loop-push-inner-requires : goal.analyze_loop-push-inner-requires
-analyze_loop-push-inner-requires t c = (omega (arith, c.requires.1.1), c.requires.1.0.small)
+analyze_loop-push-inner-requires t c = (omega (arith, c.requires.1), c.requires.0.small)
 
 pub analyze_loop-analyze_list-a-requires : goal.analyze_loop-analyze_list-a-requires
-analyze_loop-analyze_list-a-requires t c = (omega arith, (c.requires.1.0, omega (arith, c.requires.1.1, c.push-inner.ensures.next, c.push-inner.ensures.size)))
+analyze_loop-analyze_list-a-requires t c = (omega arith, (c.requires.0, omega (arith, c.requires.1, c.push-inner.ensures.next, c.push-inner.ensures.size)))
 
 pub analyze_loop-returns-in-Top : goal.analyze_loop-returns-in-Top
 unfolding in_loop ty_of
@@ -193,22 +108,22 @@ analyze_stmt-returns-then-d-eq0 t c = rw (stmt_zero c.args.d c.args.img.now c.ar
 
 pub analyze_stmt-analyze_let-requires : goal.analyze_stmt-analyze_let-requires
 unfolding stmt_kind_of pick
-analyze_stmt-analyze_let-requires t c = (c.requires.1.0, omega (arith, rw (stmt_kind c.args.d c.args.img.now c.args.at c.kind-k.result sLet c.if-d-eq0.false c.kind-k.ensures.0 (ap stmt_kind_of c.in-32.is)) at c.requires.1.1, vars_let (expr_at (c.args.d - 1) c.args.img.now) (stmt_at_lem (c.args.d - 1) c.args.img.now) c.args.img.now c.args.at))
+analyze_stmt-analyze_let-requires t c = (c.requires.0, omega (arith, rw (stmt_kind c.args.d c.args.img.now c.args.at c.kind-k.result sLet c.if-d-eq0.false c.kind-k.ensures.0 (ap stmt_kind_of c.in-32.is)) at c.requires.1, vars_let (expr_at (c.args.d - 1) c.args.img.now) (stmt_at_lem (c.args.d - 1) c.args.img.now) c.args.img.now c.args.at))
 
 pub analyze_stmt-analyze_if-requires : goal.analyze_stmt-analyze_if-requires
 unfolding stmt_kind_of pick
-analyze_stmt-analyze_if-requires t c = (omega arith, (c.requires.1.0, rw (stmt_kind c.args.d c.args.img.now c.args.at c.kind-k.result sIf c.if-d-eq0.false c.kind-k.ensures.0 (ap stmt_kind_of c.in-37.is)) at c.requires.1.1))
+analyze_stmt-analyze_if-requires t c = (omega arith, (c.requires.0, rw (stmt_kind c.args.d c.args.img.now c.args.at c.kind-k.result sIf c.if-d-eq0.false c.kind-k.ensures.0 (ap stmt_kind_of c.in-37.is)) at c.requires.1))
 
 pub analyze_stmt-analyze_while-requires : goal.analyze_stmt-analyze_while-requires
 unfolding stmt_kind_of pick
-analyze_stmt-analyze_while-requires t c = (omega arith, (c.requires.1.0, rw (stmt_kind c.args.d c.args.img.now c.args.at c.kind-k.result sWhile c.if-d-eq0.false c.kind-k.ensures.0 (ap stmt_kind_of c.in-38.is)) at c.requires.1.1))
+analyze_stmt-analyze_while-requires t c = (omega arith, (c.requires.0, rw (stmt_kind c.args.d c.args.img.now c.args.at c.kind-k.result sWhile c.if-d-eq0.false c.kind-k.ensures.0 (ap stmt_kind_of c.in-38.is)) at c.requires.1))
 
 pub analyze_stmt-analyze_for-requires : goal.analyze_stmt-analyze_for-requires
 unfolding stmt_kind_of pick
-analyze_stmt-analyze_for-requires t c = (omega arith, (c.requires.1.0, rw (stmt_kind c.args.d c.args.img.now c.args.at c.kind-k.result sFor c.if-d-eq0.false c.kind-k.ensures.0 (ap stmt_kind_of c.in-39.is)) at c.requires.1.1))
+analyze_stmt-analyze_for-requires t c = (omega arith, (c.requires.0, rw (stmt_kind c.args.d c.args.img.now c.args.at c.kind-k.result sFor c.if-d-eq0.false c.kind-k.ensures.0 (ap stmt_kind_of c.in-39.is)) at c.requires.1))
 
 pub analyze_stmt-analyze_simple-requires : goal.analyze_stmt-analyze_simple-requires
-analyze_stmt-analyze_simple-requires t c = (c.requires.1.0, (c.in_default.in_default-own.rest.0.0.0.1, (c.in_default.in_default-own.rest.0.0.1, (c.in_default.in_default-own.rest.0.1, c.in_default.in_default-own.rest.1))))
+analyze_stmt-analyze_simple-requires t c = (c.requires.0, ((omega arith), ((omega arith), ((omega arith), (omega arith)))))
 
 pub analyze_stmt-returns-in-32 : goal.analyze_stmt-returns-in-32
 unfolding stmt_kind_of pick
@@ -230,10 +145,10 @@ pub analyze_stmt-returns-in_default : goal.analyze_stmt-returns-in_default
 analyze_stmt-returns-in_default t c = rw (stmt_kind c.args.d c.args.img.now c.args.at c.kind-k.result (stmt_kind_of c.kind-k.result) c.if-d-eq0.false c.kind-k.ensures.0 refl) c.analyze_simple.ensures
 
 pub analyze_while-analyze_expr-t-requires : goal.analyze_while-analyze_expr-t-requires
-analyze_while-analyze_expr-t-requires t c = c.requires.1.0
+analyze_while-analyze_expr-t-requires t c = c.requires.0
 
 pub analyze_while-analyze_list-requires : goal.analyze_while-analyze_list-requires
-analyze_while-analyze_list-requires t c = (omega arith, (c.requires.1.0, rw (c.past.ensures.0, c.body-test.ensures.0) (omega (arith, vars_while (expr_at c.args.d c.args.img.now) (stmt_at_lem c.args.d c.args.img.now) c.args.img.now c.args.at, c.requires.1.1))))
+analyze_while-analyze_list-requires t c = (omega arith, (c.requires.0, rw (c.past.ensures.0, c.body-test.ensures.0) (omega (arith, vars_while (expr_at c.args.d c.args.img.now) (stmt_at_lem c.args.d c.args.img.now) c.args.img.now c.args.at, c.requires.1))))
 
 pub analyze_while-returns-in-Is : goal.analyze_while-returns-in-Is
 unfolding stmt of_stmt stmt_as vars typed_of

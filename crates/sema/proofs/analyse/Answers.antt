@@ -2,7 +2,6 @@
 use Rattle.notes.specs.Wrote.{blank}
 use mathlib.Core.Path.{◌∙◌, ap}
 use Rattle.rules.specs.Build.{analysis_answer, analyse_of}
-use borrow.Author.Rules.{rules}
 use Rattle.sema.proofs.analyse.Goals as goal
 
 pub analysis-requires : goal.analysis-requires

@@ -1,16 +1,9 @@
 -- analyse_checked meets its contract.
 use Rattle.rules.specs.Read.{contract_at}
-use Rattle.rules.specs.Meant.{accesses}
-use Rattle.notes.specs.Notes.{written}
 use Rattle.notes.specs.Wrote.{refused, wrote}
-use Prim.Native.Nat.{◌-◌, ◌≤◌}
 use Rattle.lookup.specs.Answers.{checked_of}
-use Rattle.sema.proofs.Functions.{accesses_from, from, from_bad, from_done, from_next, from_start, names_fit, notes_done, notes_next, notes_start}
-use Rattle.sema.specs.Entry.{analysis}
-use Rattle.tables.specs.Listed.{functions_in}
-use borrow.Author.Rules.{rules}
-use lib.ListN.{length}
-use mathlib.Core.Path.{◌∙◌, ◌≡◌, ap, refl, sym}
+use Rattle.sema.proofs.Functions.{from_bad, from_done, from_next, from_start, names_fit, notes_done, notes_next, notes_start}
+use mathlib.Core.Path.{◌∙◌, ap, refl, sym}
 use native.Mathlib.Omega.{arith}
 use Rattle.sema.proofs.analyse_checked.Goals as goal
 

@@ -2,16 +2,12 @@
 use Rattle.rules.specs.Read.{contract_at}
 use Rattle.rules.specs.Meant.{accesses}
 use Rattle.notes.specs.Notes.{written}
-use Rattle.notes.specs.Wrote.{refused, wrote}
 use Prim.Native.Nat.{◌-◌, ◌≤◌}
-use Rattle.lookup.specs.Answers.{checked_of}
-use Rattle.sema.proofs.Functions.{accesses_from, from, from_bad, from_done, from_next, from_start, names_fit, notes_done, notes_next, notes_start}
+use Rattle.sema.proofs.Functions.{accesses_from, from}
 use Rattle.sema.specs.Entry.{analysis}
 use Rattle.tables.specs.Listed.{functions_in}
-use borrow.Author.Rules.{rules}
 use lib.ListN.{length}
-use mathlib.Core.Path.{◌∙◌, ◌≡◌, ap, refl, sym}
-use native.Mathlib.Omega.{arith}
+use mathlib.Core.Path.{◌≡◌}
 use Rattle.sema.proofs.analyse_checked.Given as goal
 
 abbrev pub invariant-loop-i : goal.invariant-loop-i

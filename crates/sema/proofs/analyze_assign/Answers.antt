@@ -7,7 +7,6 @@ use Rattle.rules.specs.Analyse.{stmt}
 use Rattle.rules.specs.Read.{stmt_as}
 use Rattle.sema.proofs.Runs.{behind_ok, first_bad, last_ok, still_bad}
 use mathlib.Core.Path.{◌∙◌, ap, sym}
-use borrow.Author.Rules.{rules}
 use Rattle.sema.proofs.analyze_assign.Goals as goal
 
 pub analyze_expr-t-requires : goal.analyze_expr-t-requires

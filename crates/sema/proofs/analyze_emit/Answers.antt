@@ -6,7 +6,6 @@ use Rattle.rules.specs.Read.{stmt_as}
 use Rattle.sema.proofs.Lists.{emit_bad, emit_done}
 use Rattle.sema.proofs.Runs.{still_bad, still_noted}
 use Rattle.typing.specs.Arguments.{args_of}
-use borrow.Author.Rules.{rules}
 use mathlib.Core.Path.{◌∙◌, ap, sym}
 use Rattle.sema.proofs.analyze_emit.Goals as goal
 

@@ -5,7 +5,6 @@ use Rattle.lookup.specs.Answers.{checked_of, env_of}
 use Rattle.rules.specs.Read.{contract_at, fields_at, function_at}
 use Rattle.sema.proofs.Bodies.{function_bad, function_ok, names_at}
 use Rattle.sema.proofs.Runs.{answered, stopped, told}
-use borrow.Author.Rules.{rules}
 use mathlib.Core.Path.{◌∙◌, refl}
 use native.Mathlib.Omega.{arith}
 use Rattle.sema.proofs.analyze_function.Goals as goal

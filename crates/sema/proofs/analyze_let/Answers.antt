@@ -6,7 +6,6 @@ use Rattle.rules.specs.Analyse.{stmt}
 use Rattle.rules.specs.Read.{stmt_as}
 use Rattle.sema.proofs.Runs.{first_bad, last_ok, push_step}
 use mathlib.Core.Path.{◌∙◌, ap, sym}
-use borrow.Author.Rules.{rules}
 use Rattle.sema.proofs.analyze_let.Goals as goal
 
 pub analyze_expr-t-requires : goal.analyze_expr-t-requires

@@ -7,7 +7,6 @@ use Rattle.rules.specs.Read.{expr_at, stmt_at_lem}
 use Rattle.sema.proofs.Runs.{first_bad, last_ok}
 use Rattle.sema.proofs.Trees.{return_not, return_there}
 use mathlib.Core.Path.{◌∙◌, ap, sym}
-use borrow.Author.Rules.{rules}
 use Rattle.sema.proofs.analyze_return.Goals as goal
 
 pub analyze_expr-t-requires : goal.analyze_expr-t-requires

@@ -1,4 +1,5 @@
 -- analyze_simple meets its contract.
+use native.Mathlib.Omega.{arith}
 use Rattle.rules.specs.Meant.{of_stmt}
 use Rattle.bounds.specs.Sizes.{vars}
 use Rattle.rules.specs.Analyse.{stmt}
@@ -8,7 +9,6 @@ use Rattle.sema.proofs.Runs.{still_ok}
 use Rattle.sema.proofs.Trees.{kind_rest}
 use Rattle.sema.specs.Steps.{only}
 use mathlib.Core.Path.{refl}
-use borrow.Author.Rules.{rules}
 use Rattle.sema.proofs.analyze_simple.Goals as goal
 
 pub run_expr-requires : goal.run_expr-requires
@@ -62,4 +62,4 @@ returns-in-42 c = rw c.in-42.is (rw c.body-in-42.ensures.0 at c.run_expr-in-42.e
 
 pub returns-in_default : goal.returns-in_default
 unfolding stmt of_stmt stmt_as vars
-returns-in_default c = rw (kind_rest c.args.k c.requires.1.0 c.in_default.in_default-own.rest.0.0.0.0.0.0.1 c.in_default.in_default-own.rest.0.0.0.0.0.1 c.in_default.in_default-own.rest.0.0.0.0.1 c.in_default.in_default-own.rest.0.0.0.1 c.requires.1.1.0 c.requires.1.1.1.0 c.requires.1.1.1.1 c.in_default.in_default-own.rest.0.0.1 c.in_default.in_default-own.rest.0.1 c.in_default.in_default-own.rest.1) (still_ok refl)
+returns-in_default c = rw (kind_rest c.args.k c.requires.1.0 (omega arith) (omega arith) (omega arith) (omega arith) c.requires.1.1.0 c.requires.1.1.1.0 c.requires.1.1.1.1 (omega arith) (omega arith) (omega arith)) (still_ok refl)

@@ -7,7 +7,6 @@ use Rattle.rules.specs.Read.{stmt_as}
 use Rattle.sema.proofs.Runs.{first_bad, first_ok}
 use Rattle.sema.specs.Steps.{only}
 use mathlib.Core.Path.{◌∙◌, ap, sym}
-use borrow.Author.Rules.{rules}
 use Rattle.sema.proofs.analyze_write.Goals as goal
 
 pub analyze_expr-t-requires : goal.analyze_expr-t-requires

@@ -2,7 +2,6 @@
 use Rattle.lookup.specs.Answers.{fault_of}
 use Rattle.lookup.specs.Results.{unless_bad, unless_ok}
 use Rattle.sema.proofs.Runs.{still_bad, still_ok}
-use borrow.Author.Rules.{rules}
 use Rattle.sema.proofs.assigned.Goals as goal
 
 pub returns-then-clashing : goal.returns-then-clashing

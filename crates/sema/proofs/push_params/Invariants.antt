@@ -1,14 +1,10 @@
 -- push_params meets its contract.
 use Prim.Native.Nat.{◌*◌, ◌+◌, ◌≤◌, ℕ}
-use Rattle.lookup.specs.Places.{places_end, places_more, places_zero}
 use Rattle.rules.specs.Read.{places_from, places_in}
-use Rattle.sema.proofs.Bodies.{bound_more, bound_none}
 use Rattle.sema.specs.Steps.{Bound}
-use borrow.Author.Rules.{rules}
 use lib.ListN.{length}
 use mathlib.Core.List.{List}
-use mathlib.Core.Path.{◌∙◌, ◌≡◌, ap, refl}
-use native.Mathlib.Omega.{arith}
+use mathlib.Core.Path.{◌≡◌}
 use Rattle.sema.proofs.push_params.Given as goal
 
 abbrev pub invariant-loop-k : goal.invariant-loop-k

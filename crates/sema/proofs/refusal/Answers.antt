@@ -1,7 +1,6 @@
 -- refusal meets its contract.
 use Rattle.lookup.specs.Answers.{fault_of}
 use Rattle.rules.specs.Refusal.{refused}
-use borrow.Author.Rules.{rules}
 use Rattle.sema.proofs.refusal.Goals as goal
 
 pub returns-in-Ident : goal.returns-in-Ident

@@ -3,7 +3,6 @@ use Rattle.lookup.specs.Answers.{typed_of}
 use Rattle.sema.proofs.Runs.{first_bad, last_ok, still_ok}
 use Rattle.sema.specs.Steps.{only}
 use mathlib.Core.Path.{◌∙◌, ap, refl, sym}
-use borrow.Author.Rules.{rules}
 use Rattle.sema.proofs.run_expr.Goals as goal
 
 pub analyze_expr-t-requires : goal.analyze_expr-t-requires

@@ -2,7 +2,6 @@
 use native.Mathlib.Omega.{arith}
 use lib.ListN.{length-set}
 use Rattle.stmt.proofs.Names.{bound}
-use borrow.Author.Rules.{rules}
 use Rattle.stmt.proofs.bind.Goals as goal
 
 pub bounds-scope-k-2 : goal.bounds-scope-k-2

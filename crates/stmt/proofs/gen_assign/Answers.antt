@@ -1,6 +1,5 @@
 -- gen_assign does the steps of its statement.
 use mathlib.Core.Bool.{false}
-use borrow.Author.Rules.{rules}
 use Rattle.rules.specs.Read.{stmt_as}
 use Rattle.emit.specs.Steps.{gen_stmt_lem}
 use Rattle.emit.specs.Ran.{raw}

@@ -1,18 +1,14 @@
 -- gen_emit does the steps of its statement.
-use Rattle.emit.specs.Sinks.{sinks}
 use mathlib.Core.Path.{◌∙◌}
 use mathlib.Core.Bool.{false}
-use Prim.Native.Nat.{◌-◌}
 use native.Mathlib.Omega.{arith}
-use borrow.Author.Rules.{rules}
-use Rattle.rules.specs.Read.{stmt_as, expr_at}
+use Rattle.rules.specs.Read.{stmt_as}
 use Rattle.emit.specs.Steps.{gen_stmt_lem}
 use Rattle.emit.specs.Ran.{raw}
 use Rattle.emit.specs.Refines.{seq}
-use Rattle.expr.specs.Scope.{scope_in}
 use Rattle.stmt.proofs.Laws.{ends}
 use Rattle.stmt.proofs.Names.{idle}
-use Rattle.stmt.proofs.Lists.{goes_on, Logs, logs_begin, logs_go, logs_end}
+use Rattle.stmt.proofs.Lists.{goes_on, logs_begin, logs_go, logs_end}
 use Rattle.stmt.proofs.gen_emit.Goals as goal
 
 pub loop-p-init : goal.loop-p-init
@@ -25,7 +21,7 @@ pub loop-p-smaller : goal.loop-p-smaller
 loop-p-smaller c = omega (arith, goes_on c.args.img.now c.loop-p.p c.past-end.result c.loop-p-test.true c.past-end.ensures.1, c.past-p.ensures.0)
 
 pub loop-p-preserved : goal.loop-p-preserved
-loop-p-preserved c = logs_go _ _ _ _ _ _ _ _ _ c.requires.known.0.small c.past-end.ensures.1 c.loop-p.invariant c.loop-p-test.true c.past-p.ensures.0 c.gen_expr-v.ensures (c.emit-s.ensures.ran _ _ false) c.emit-s.ensures.next (c.emit-s.auto.0 ∙ c.gen_expr-v.auto.0, c.emit-s.auto.1.0 ∙ c.gen_expr-v.auto.1.0)
+loop-p-preserved c = logs_go _ _ _ _ _ _ _ _ _ c.requires.known.0.small c.past-end.ensures.1 c.loop-p.invariant c.loop-p-test.true c.past-p.ensures.0 c.gen_expr-v.ensures (c.emit-s.ensures.ran _ _ false) c.emit-s.ensures.next (c.emit-s.auto.code ∙ c.gen_expr-v.auto.code, c.emit-s.auto.bytes ∙ c.gen_expr-v.auto.bytes)
 
 pub shape_of-code : goal.shape_of-code
 shape_of-code c = c.loop-p.invariant.room.0

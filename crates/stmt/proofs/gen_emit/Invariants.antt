@@ -1,18 +1,9 @@
 -- gen_emit does the steps of its statement.
 use Rattle.emit.specs.Sinks.{sinks}
-use mathlib.Core.Path.{◌∙◌}
-use mathlib.Core.Bool.{false}
 use Prim.Native.Nat.{◌-◌}
-use native.Mathlib.Omega.{arith}
-use borrow.Author.Rules.{rules}
-use Rattle.rules.specs.Read.{stmt_as, expr_at}
-use Rattle.emit.specs.Steps.{gen_stmt_lem}
-use Rattle.emit.specs.Ran.{raw}
-use Rattle.emit.specs.Refines.{seq}
+use Rattle.rules.specs.Read.{expr_at}
 use Rattle.expr.specs.Scope.{scope_in}
-use Rattle.stmt.proofs.Laws.{ends}
-use Rattle.stmt.proofs.Names.{idle}
-use Rattle.stmt.proofs.Lists.{goes_on, Logs, logs_begin, logs_go, logs_end}
+use Rattle.stmt.proofs.Lists.{Logs}
 use Rattle.stmt.proofs.gen_emit.Given as goal
 
 abbrev pub invariant-loop-p : goal.invariant-loop-p

@@ -1,5 +1,4 @@
 -- gen_just does the steps of its statement.
-use borrow.Author.Rules.{rules}
 use Rattle.rules.specs.Read.{stmt_as}
 use Rattle.emit.specs.Steps.{gen_stmt_lem}
 use Rattle.emit.specs.Ran.{raw}

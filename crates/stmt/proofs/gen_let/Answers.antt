@@ -1,6 +1,5 @@
 -- gen_let does the steps of its statement.
 use native.Mathlib.Omega.{arith}
-use borrow.Author.Rules.{rules}
 use Rattle.rules.specs.Read.{stmt_as}
 use Rattle.bounds.specs.Sizes.{vars}
 use Rattle.emit.specs.Steps.{gen_stmt_lem}

@@ -1,7 +1,6 @@
 -- gen_return does the steps of its statement.
 use mathlib.Core.Path.{◌∙◌}
 use mathlib.Core.Bool.{false}
-use borrow.Author.Rules.{rules}
 use Rattle.rules.specs.Read.{expr_at, stmt_at_lem}
 use Rattle.emit.specs.Steps.{gen_stmt_lem}
 use Rattle.emit.specs.Ran.{raw}
@@ -15,10 +14,10 @@ pub gen_expr-v-requires : goal.gen_expr-v-requires
 gen_expr-v-requires c = c.requires.known
 
 pub shape_of-code-then-value-end : goal.shape_of-code-then-value-end
-shape_of-code-then-value-end c = c.leave-l.auto.0 ∙ c.gen_expr-v.auto.0 ∙ c.emit_new-t.auto.0
+shape_of-code-then-value-end c = c.leave-l.auto.code ∙ c.gen_expr-v.auto.code ∙ c.emit_new-t.auto.code
 
 pub shape_of-bytes-then-value-end : goal.shape_of-bytes-then-value-end
-shape_of-bytes-then-value-end c = c.leave-l.auto.1.0 ∙ c.gen_expr-v.auto.1.0 ∙ c.emit_new-t.auto.1.0
+shape_of-bytes-then-value-end c = c.leave-l.auto.bytes ∙ c.gen_expr-v.auto.bytes ∙ c.emit_new-t.auto.bytes
 
 pub returns-then-value-end : goal.returns-then-value-end
 unfolding gen_stmt_lem
@@ -30,10 +29,10 @@ returns-then-value-end c = rw (value_some (expr_at c.args.d c.args.img.now) (stm
 })
 
 pub shape_of-code : goal.shape_of-code
-shape_of-code c = c.leave-l-2.auto.0 ∙ c.emit-w.auto.0 ∙ c.emit_new-t.auto.0
+shape_of-code c = c.leave-l-2.auto.code ∙ c.emit-w.auto.code ∙ c.emit_new-t.auto.code
 
 pub shape_of-bytes : goal.shape_of-bytes
-shape_of-bytes c = c.leave-l-2.auto.1.0 ∙ c.emit-w.auto.1.0 ∙ c.emit_new-t.auto.1.0
+shape_of-bytes c = c.leave-l-2.auto.bytes ∙ c.emit-w.auto.bytes ∙ c.emit_new-t.auto.bytes
 
 pub returns : goal.returns
 unfolding gen_stmt_lem

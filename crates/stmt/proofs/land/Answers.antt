@@ -1,6 +1,5 @@
 -- land stores a jump into its slot.
 use native.Mathlib.Omega.{arith}
-use borrow.Author.Rules.{rules}
 use Rattle.rules.specs.Machine.{bits_of}
 use Rattle.emit.specs.Ran.{raw}
 use Rattle.emit.specs.Leaves.{cuts}

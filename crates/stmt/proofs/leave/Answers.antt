@@ -1,6 +1,5 @@
 -- leave ends a function.
 use mathlib.Core.Bool.{false}
-use borrow.Author.Rules.{rules}
 use Rattle.emit.specs.Ran.{raw}
 use Rattle.emit.specs.Refines.{says}
 use Rattle.stmt.proofs.leave.Goals as goal

@@ -1,6 +1,5 @@
 -- let_reg gives a Let its register, in each of its three ways.
 use native.Mathlib.Omega.{arith}
-use borrow.Author.Rules.{rules}
 use Rattle.stmt.proofs.Laws.{own, copied, shared}
 use Rattle.stmt.proofs.let_reg.Goals as goal
 

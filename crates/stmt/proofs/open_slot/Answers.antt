@@ -1,6 +1,5 @@
 -- open_slot keeps a slot.
 use mathlib.Core.Path.{refl}
-use borrow.Author.Rules.{rules}
 use Rattle.stmt.proofs.open_slot.Goals as goal
 
 pub returns : goal.returns

@@ -1,7 +1,6 @@
 -- step is the end of a For's body.
 use mathlib.Core.Path.{refl}
 use mathlib.Core.Bool.{false}
-use borrow.Author.Rules.{rules}
 use Rattle.emit.specs.Ran.{raw}
 use Rattle.emit.specs.Refines.{seq, still, says}
 use Rattle.stmt.specs.Runs.{stepping}

@@ -2,7 +2,6 @@
 use mathlib.Core.Path.{refl, sym}
 use mathlib.Core.Bool.{false}
 use Prim.Native.Nat.{◌%◌}
-use borrow.Author.Rules.{rules}
 use Rattle.isa.specs.declared.Opcode.TheVariants as op
 use Rattle.rules.specs.Machine.{Imm}
 use Rattle.emit.specs.Ran.{raw}

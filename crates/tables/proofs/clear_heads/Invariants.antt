@@ -1,10 +1,6 @@
 -- clear_heads meets its contract.
-use mathlib.Core.Path.{◌≡◌}
 use Prim.Native.Nat.{◌-◌, ◌≤◌}
-use native.Mathlib.Omega.{arith}
 use Rattle.tables.specs.Listed.{Cleared}
-use Rattle.tables.proofs.Fill.{clear_none, clear_more}
-use borrow.Author.Rules.{rules}
 use Rattle.tables.proofs.clear_heads.Given as goal
 
 abbrev pub invariant-loop-b : goal.invariant-loop-b

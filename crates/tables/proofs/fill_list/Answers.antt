@@ -1,15 +1,12 @@
 -- fill_list meets its contract.
-use mathlib.Core.Logic.{⊎_elim}
 use mathlib.Core.Path.{◌≡◌}
-use Prim.Native.Nat.{◌+◌, ◌-◌, ◌%◌, ◌≤◌}
+use Prim.Native.Nat.{◌+◌, ◌-◌, ◌%◌}
 use native.Mathlib.Omega.{arith}
-use borrow.Author.Tests.{ltb-true, ltb-false}
 use lib.ListN.{length-set}
-use Rattle.rules.specs.Read.{name_in, places_in, places_from}
+use Rattle.rules.specs.Read.{name_in, places_in}
 use Rattle.records.specs.Keys.{key_of}
 use Rattle.records.specs.Places.{places_zero, places_end, places_more}
-use Rattle.tables.proofs.Fill.{Filled, stored, begin, put, done}
-use borrow.Author.Rules.{rules}
+use Rattle.tables.proofs.Fill.{stored, begin, put, done}
 use Rattle.tables.proofs.fill_list.Goals as goal
 use Rattle.tables.proofs.fill_list.Goals.{then-loop-n-test+else-p-end, else-loop-n-test}
 
@@ -32,7 +29,7 @@ pub loop-n-smaller : goal.loop-n-smaller
 loop-n-smaller c = omega arith
 
 pub loop-n-preserved : goal.loop-n-preserved
-loop-n-preserved c =     let img = c.args.img.now in
+loop-n-preserved c = let img = c.args.img.now in
     let p = c.loop-n.p in
     let fewer : c.args.most - (c.loop-n.n + 1) ≡ c.args.most - c.loop-n.n - 1 = omega arith in
     let before = c.if-p-end.true in (
@@ -55,8 +52,8 @@ shape_of-t c = simp length-set (omega (arith, c.loop-n.invariant.1.above.size, c
 pub returns : goal.returns
 returns c = done c.args.img.now c.clear_heads.new.t c.args.base (places_in c.args.most c.args.img.now c.args.l) c.loop-n.t _ c.loop-n.n c.args.t.now
     (elim c.loop-n-test.branch [
-      then-loop-n-test+else-p-end w ↦ places_end c.args.img.now (c.args.most - c.loop-n.n) c.loop-n.p c.past-end.result w.if-p-end.false
-    | else-loop-n-test w ↦ places_zero c.args.img.now (c.args.most - c.loop-n.n) c.loop-n.p c.past-end.result (omega (arith, w.loop-n-test.false))
+      | then-loop-n-test+else-p-end w ↦ places_end c.args.img.now (c.args.most - c.loop-n.n) c.loop-n.p c.past-end.result w.if-p-end.false
+      | else-loop-n-test w ↦ places_zero c.args.img.now (c.args.most - c.loop-n.n) c.loop-n.p c.past-end.result (omega (arith, w.loop-n-test.false))
     ])
     (omega (arith, c.loop-n.invariant.1.above.size, c.clear_heads.ensures.above.size))
     c.clear_heads.ensures.above

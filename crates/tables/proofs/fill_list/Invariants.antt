@@ -1,15 +1,7 @@
 -- fill_list meets its contract.
-use mathlib.Core.Logic.{⊎_elim}
-use mathlib.Core.Path.{◌≡◌}
-use Prim.Native.Nat.{◌+◌, ◌-◌, ◌%◌, ◌≤◌}
-use native.Mathlib.Omega.{arith}
-use borrow.Author.Tests.{ltb-true, ltb-false}
-use lib.ListN.{length-set}
-use Rattle.rules.specs.Read.{name_in, places_in, places_from}
-use Rattle.records.specs.Keys.{key_of}
-use Rattle.records.specs.Places.{places_zero, places_end, places_more}
-use Rattle.tables.proofs.Fill.{Filled, stored, begin, put, done}
-use borrow.Author.Rules.{rules}
+use Prim.Native.Nat.{◌-◌, ◌≤◌}
+use Rattle.rules.specs.Read.{places_in, places_from}
+use Rattle.tables.proofs.Fill.{Filled}
 use Rattle.tables.proofs.fill_list.Given as goal
 
 abbrev pub invariant-loop-n : goal.invariant-loop-n

@@ -10,7 +10,7 @@ use borrow.Author.Rules.{rules}
 use Rattle.tables.proofs.fill_tables.Goals as goal
 
 pub returns : goal.returns
-returns c =     let img = c.args.img.now in
+returns c = let img = c.args.img.now in
     let few-functions : length (functions_in img) ≤ 256 = few 256 img (fourth img 0) in
     let few-structs : length (structs_in img) ≤ 64 = few 64 img (third img 0) in
     record {

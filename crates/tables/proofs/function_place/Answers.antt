@@ -1,5 +1,4 @@
 -- function_place meets its contract.
-use borrow.Author.Rules.{rules}
 use Rattle.tables.proofs.function_place.Goals as goal
 
 pub returns : goal.returns

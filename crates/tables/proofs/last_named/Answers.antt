@@ -1,10 +1,7 @@
 -- last_named meets its contract.
 use mathlib.Core.Path.{sym, ◌∙◌}
-use Prim.Native.Nat.{◌+◌, ◌≤◌}
 use native.Mathlib.Omega.{arith}
-use lib.ListN.{length}
-use Rattle.tables.proofs.Search.{Search, older, start, skip, hit, miss}
-use borrow.Author.Rules.{rules}
+use Rattle.tables.proofs.Search.{older, start, skip, hit, miss}
 use Rattle.tables.proofs.last_named.Goals as goal
 
 pub bounds-t-base : goal.bounds-t-base

@@ -1,10 +1,7 @@
 -- last_named meets its contract.
-use mathlib.Core.Path.{sym, ◌∙◌}
 use Prim.Native.Nat.{◌+◌, ◌≤◌}
-use native.Mathlib.Omega.{arith}
 use lib.ListN.{length}
-use Rattle.tables.proofs.Search.{Search, older, start, skip, hit, miss}
-use borrow.Author.Rules.{rules}
+use Rattle.tables.proofs.Search.{Search}
 use Rattle.tables.proofs.last_named.Given as goal
 
 abbrev pub invariant-loop-k : goal.invariant-loop-k

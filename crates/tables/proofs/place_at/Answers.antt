@@ -1,5 +1,4 @@
 -- place_at meets its contract.
-use borrow.Author.Rules.{rules}
 use Rattle.tables.proofs.place_at.Goals as goal
 
 pub returns-then-i-t : goal.returns-then-i-t

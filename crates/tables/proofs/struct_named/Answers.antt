@@ -1,5 +1,4 @@
 -- struct_named meets its contract.
-use borrow.Author.Rules.{rules}
 use Rattle.tables.proofs.struct_named.Goals as goal
 
 pub last_named-requires : goal.last_named-requires

@@ -1,5 +1,4 @@
 -- struct_place meets its contract.
-use borrow.Author.Rules.{rules}
 use Rattle.tables.proofs.struct_place.Goals as goal
 
 pub returns : goal.returns

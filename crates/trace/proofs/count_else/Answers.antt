@@ -9,7 +9,7 @@ pub count_stmts-requires : goal.count_stmts-requires
 count_stmts-requires c = rw (else_some (stmt_at_lem c.args.d c.args.img.now) c.args.img.now c.args.list c.args.stop c.if-list-stop.true) at c.requires
 
 pub shape_of-scope : goal.shape_of-scope
-shape_of-scope c = c.count_stmts.auto.0
+shape_of-scope c = c.count_stmts.auto.scope
 
 pub returns-then-list-stop : goal.returns-then-list-stop
 returns-then-list-stop c = other c.if-list-stop.true c.count_stmts.ensures

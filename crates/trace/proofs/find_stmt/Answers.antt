@@ -16,13 +16,13 @@ pub settle-requires : goal.settle-requires
 settle-requires c = c.requires.known
 
 pub shape_of-scope-then-t-ne-BLOCK : goal.shape_of-scope-then-t-ne-BLOCK
-shape_of-scope-then-t-ne-BLOCK c = c.step_list-t.auto.0 ∙ (c.loop-d.invariant c.args.st c.block-t.ensures).long
+shape_of-scope-then-t-ne-BLOCK c = c.step_list-t.auto.scope ∙ (c.loop-d.invariant c.args.st c.block-t.ensures).long
 
 pub returns-then-t-ne-BLOCK : goal.returns-then-t-ne-BLOCK
 returns-then-t-ne-BLOCK c = down_settled (c.loop-d.invariant c.args.st c.block-t.ensures) c.step_list-t.ensures refl (c.settle.ensures c.if-t-ne-BLOCK.true)
 
 pub loop-d-preserved : goal.loop-d-preserved
-loop-d-preserved c = λ st e. down_go (c.loop-d.invariant st e) c.step_list-t.ensures refl c.if-t-ne-BLOCK.false c.step_list-t.auto.0
+loop-d-preserved c = λ st e. down_go (c.loop-d.invariant st e) c.step_list-t.ensures refl c.if-t-ne-BLOCK.false c.step_list-t.auto.scope
 
 pub settle-requires-2 : goal.settle-requires-2
 settle-requires-2 c = c.requires.known

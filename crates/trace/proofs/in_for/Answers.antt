@@ -30,7 +30,7 @@ unfolding vars stmt_as
 bind-requires c = (omega (arith, c.requires.names), (c.requires.size, c.requires.known.0.small))
 
 pub shape_of-scope : goal.shape_of-scope
-shape_of-scope c = c.bind.auto.0
+shape_of-scope c = c.bind.auto.scope
 
 pub returns : goal.returns
-returns c = for_loop (record { var = c.body-var.ensures.0; from = c.past-from.ensures.0; to = c.past-to.ensures.0; list = c.past.ensures.0; begins = c.count_expr-v.ensures; ends = c.count_expr-w.ensures; takes = c.alloc_reg-r.ensures; keeps = c.reserve-i.ensures; tests = c.alloc_reg-c.ensures; tested = c.reserve-l.ensures }) c.requires c.bind.ensures c.bind.auto.0 c.if-want-v.false c.if-want-w.false c.if-want-i.false c.if-want-l.false c.in_loop.ensures
+returns c = for_loop (record { var = c.body-var.ensures.0; from = c.past-from.ensures.0; to = c.past-to.ensures.0; list = c.past.ensures.0; begins = c.count_expr-v.ensures; ends = c.count_expr-w.ensures; takes = c.alloc_reg-r.ensures; keeps = c.reserve-i.ensures; tests = c.alloc_reg-c.ensures; tested = c.reserve-l.ensures }) c.requires c.bind.ensures c.bind.auto.scope c.if-want-v.false c.if-want-w.false c.if-want-i.false c.if-want-l.false c.in_loop.ensures

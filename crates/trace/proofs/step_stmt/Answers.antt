@@ -64,7 +64,7 @@ unfolding stmt_kind_of pick
 returns-in-36 c = kind_in c.args.img.now c.args.d c.args.at sMapping c.kind.ensures.0 (ap stmt_kind_of c.in-36.is) c.in_mapping.ensures
 
 pub shape_of-scope-in-37 : goal.shape_of-scope-in-37
-shape_of-scope-in-37 c = c.in_if.auto.0
+shape_of-scope-in-37 c = c.in_if.auto.scope
 
 pub returns-in-37 : goal.returns-in-37
 unfolding stmt_kind_of pick
@@ -75,7 +75,7 @@ unfolding stmt_kind_of pick
 returns-in-38 c = kind_in c.args.img.now c.args.d c.args.at sWhile c.kind.ensures.0 (ap stmt_kind_of c.in-38.is) c.in_while.ensures
 
 pub shape_of-scope-in-39 : goal.shape_of-scope-in-39
-shape_of-scope-in-39 c = c.in_for.auto.0
+shape_of-scope-in-39 c = c.in_for.auto.scope
 
 pub returns-in-39 : goal.returns-in-39
 unfolding stmt_kind_of pick

@@ -1,232 +1,32 @@
 -- The cycle {analyze_access, analyze_args, analyze_binary, analyze_call, analyze_expr, analyze_init, analyze_inits, analyze_literal, analyze_mapping}: the needs of each member are in a file of its own.
-use Rattle.typing.proofs.+analyze_access_analyze_args_analyze_binary_analyze_call_analyze_expr_analyze_init_analyze_inits_analyze_literal_analyze_mapping.{statement}
-use Rattle.lookup.specs.Answers.{env_of, typed_of}
-use Rattle.lookup.specs.Results.{then_bad, then_ok}
-use Rattle.rules.specs.Analyse.{expr}
-use Rattle.rules.specs.Read.{contract_at, expr_as}
-use Rattle.typing.proofs.Wrote.{access_written}
-use Rattle.notes.specs.Wrote.{refused, was}
-use borrow.Author.Rules.{rules}
+use Rattle.lookup.specs.Answers.{env_of, typed_of, due_of, misfit_of, ty_of, checked_of, fault_of}
+use Rattle.lookup.specs.Results.{then_bad, then_ok, known_none, known_some}
+use Rattle.rules.specs.Analyse.{expr, inits, struct_named}
+use Rattle.rules.specs.Read.{contract_at, expr_as, expr_at, kAccess, kBinary, kCall, kIdent, kInt, kLiteral, kMapping, kOther, kStorage, kind_of, struct_at}
+use Rattle.typing.proofs.Wrote.{access_written, args_all, args_first, args_written, inits_all, inits_written}
+use Rattle.notes.specs.Wrote.{refused, was, wrote, in_turn, none_written}
 use mathlib.Core.Path.{◌∙◌, ap, refl, sym}
 use native.Mathlib.Omega.{arith}
-use Prim.Native.Nat.{ℕ}
-use Prim.Native.Nat.{◌-◌, ◌≤◌, ℕ}
-use Rattle.lookup.specs.Answers.{due_of, env_of, misfit_of, typed_of}
-use Rattle.rules.specs.Bytes.{after, inside}
-use Rattle.rules.specs.Read.{contract_at, expr_at, exprs_from}
-use Rattle.rules.specs.Refusal.{◌>>=◌}
-use Rattle.typing.proofs.Lists.{args_done, args_next, args_refused, args_start, drop_more, nth_drop}
-use Rattle.typing.proofs.Wrote.{args_all, args_first, args_written}
-use Rattle.rules.specs.Meant.{of_exprs}
-use Rattle.notes.specs.Notes.{written}
-use Rattle.notes.specs.Wrote.{refused, was, wrote}
-use Rattle.typing.proofs.Trees.{exprs_end, exprs_zero}
-use Rattle.typing.specs.Arguments.{args_of, behind, exprs_in, sum_args}
-use lib.ListN.{drop}
-use mathlib.Core.Path.{◌∙◌, ◌≡◌, ap, refl, sym}
-use Rattle.lookup.specs.Answers.{typed_of}
-use Rattle.rules.specs.Meant.{of_expr}
-use Rattle.notes.specs.Wrote.{in_turn, refused, was, wrote}
-use Rattle.typing.proofs.Lists.{call_done}
-use Rattle.typing.specs.Arguments.{args_of}
-use Rattle.lookup.specs.Answers.{ty_of, typed_of}
-use Rattle.rules.specs.Bytes.{pick}
-use Rattle.rules.specs.Read.{contract_at, expr_as, kAccess, kBinary, kCall, kIdent, kInt, kLiteral, kMapping, kOther, kStorage, kind_of}
-use Rattle.notes.specs.Wrote.{none_written}
-use Rattle.typing.proofs.Trees.{at_kind, at_zero, kind_other}
-use mathlib.Core.Path.{ap, refl}
-use Rattle.lookup.specs.Answers.{checked_of, typed_of}
-use Rattle.rules.specs.Read.{contract_at}
-use Rattle.typing.specs.Arguments.{one_init}
-use Rattle.lookup.specs.Answers.{checked_of, env_of}
-use Rattle.rules.specs.Analyse.{inits}
-use Rattle.rules.specs.Read.{contract_at, expr_at, inits_from, struct_at}
-use Rattle.typing.proofs.Lists.{inits_bad, inits_next}
-use Rattle.typing.proofs.Wrote.{inits_all, inits_written}
-use Rattle.rules.specs.Meant.{of_inits}
-use Rattle.typing.proofs.Trees.{inits_end, inits_zero}
-use Rattle.typing.specs.Arguments.{inits_in}
-use Rattle.lookup.specs.Answers.{checked_of, fault_of, ty_of, typed_of}
-use Rattle.lookup.specs.Results.{known_none, known_some, then_bad, then_ok}
-use Rattle.rules.specs.Analyse.{expr, struct_named}
-use Rattle.rules.specs.Bytes.{name_at}
-use Rattle.rules.specs.Read.{contract_at, expr_as, struct_at}
+use Prim.Native.Nat.{ℕ, ◌-◌}
+use Rattle.rules.specs.Bytes.{after, inside, pick, name_at}
 use Rattle.rules.specs.Refusal.{ok}
+use Rattle.typing.proofs.Lists.{args_done, args_next, args_refused, args_start, drop_more, nth_drop, call_done, inits_bad, inits_next}
+use Rattle.rules.specs.Meant.{of_expr}
+use Rattle.typing.proofs.Trees.{exprs_end, exprs_zero, at_kind, at_zero, kind_other, inits_end, inits_zero}
+use Rattle.typing.specs.Arguments.{args_of, one_init}
+use lib.ListN.{drop}
 use Rattle.rules.specs.Tables.{mapped}
 use Rattle.rules.specs.Types.{Typ}
 use Rattle.tables.specs.Carried.{struct_is}
 use Rattle.tables.specs.Listed.{place_of}
 use Rattle.tables.specs.declared.Found.{Found}
-use Prim.Native.Nat.{◌*◌, ◌+◌, ℕ, ◌<◌}
-use borrow.Fn.Kinds.{In}
-use borrow.Fn.PlainCycle.{Measures, is, falls, and}
-use Rattle.typing.proofs.analyze_access.Kinds as analyze-access-kinds
-use Rattle.typing.proofs.analyze_args.Kinds as analyze-args-kinds
-use Rattle.typing.proofs.analyze_binary.Kinds as analyze-binary-kinds
-use Rattle.typing.proofs.analyze_call.Kinds as analyze-call-kinds
-use Rattle.typing.proofs.analyze_expr.Kinds as analyze-expr-kinds
-use Rattle.typing.proofs.analyze_init.Kinds as analyze-init-kinds
-use Rattle.typing.proofs.analyze_inits.Kinds as analyze-inits-kinds
-use Rattle.typing.proofs.analyze_literal.Kinds as analyze-literal-kinds
-use Rattle.typing.proofs.analyze_mapping.Kinds as analyze-mapping-kinds
 use Rattle.typing.proofs.+analyze_access_analyze_args_analyze_binary_analyze_call_analyze_expr_analyze_init_analyze_inits_analyze_literal_analyze_mapping.Goals as goal
 
-abbrev pub μ-analyze-access : Measures 4 analyze-access-kinds.ps ℕ
-μ-analyze-access κs a = 4 * a.1.1.1.1.0 + 3
-
-abbrev pub μ-analyze-args : Measures 4 analyze-args-kinds.ps ℕ
-μ-analyze-args κs a = 4 * a.1.1.1.1.1.0 + 1
-
-abbrev pub μ-analyze-binary : Measures 4 analyze-binary-kinds.ps ℕ
-μ-analyze-binary κs a = 4 * a.1.1.1.1.0 + 3
-
-abbrev pub μ-analyze-call : Measures 4 analyze-call-kinds.ps ℕ
-μ-analyze-call κs a = 4 * a.1.1.1.1.0 + 3
-
-abbrev pub μ-analyze-expr : Measures 4 analyze-expr-kinds.ps ℕ
-μ-analyze-expr κs a = 4 * a.1.1.1.1.0
-
-abbrev pub μ-analyze-init : Measures 4 analyze-init-kinds.ps ℕ
-μ-analyze-init κs a = 4 * a.1.1.1.1.0 + 1
-
-abbrev pub μ-analyze-inits : Measures 4 analyze-inits-kinds.ps ℕ
-μ-analyze-inits κs a = 4 * a.1.1.1.1.0 + 2
-
-abbrev pub μ-analyze-literal : Measures 4 analyze-literal-kinds.ps ℕ
-μ-analyze-literal κs a = 4 * a.1.1.1.1.0 + 3
-
-abbrev pub μ-analyze-mapping : Measures 4 analyze-mapping-kinds.ps ℕ
-μ-analyze-mapping κs a = 4 * a.1.1.1.1.0 + 3
-
-abbrev pub analyze-access-at : ℕ → In 4 analyze-access-kinds.ps
-analyze-access-at t =
-    and
-    4
-    analyze-access-kinds.ps
-    (is 4 analyze-access-kinds.ps μ-analyze-access t)
-    analyze-access.Pre
-
-abbrev pub analyze-access-below : ℕ → In 4 analyze-access-kinds.ps
-analyze-access-below t =
-    and
-    4
-    analyze-access-kinds.ps
-    (falls 4 analyze-access-kinds.ps ◌<◌ μ-analyze-access t)
-    analyze-access.Pre
-
-abbrev pub analyze-args-at : ℕ → In 4 analyze-args-kinds.ps
-analyze-args-at t =
-    and 4 analyze-args-kinds.ps (is 4 analyze-args-kinds.ps μ-analyze-args t) analyze-args.Pre
-
-abbrev pub analyze-args-below : ℕ → In 4 analyze-args-kinds.ps
-analyze-args-below t =
-    and
-    4
-    analyze-args-kinds.ps
-    (falls 4 analyze-args-kinds.ps ◌<◌ μ-analyze-args t)
-    analyze-args.Pre
-
-abbrev pub analyze-binary-at : ℕ → In 4 analyze-binary-kinds.ps
-analyze-binary-at t =
-    and
-    4
-    analyze-binary-kinds.ps
-    (is 4 analyze-binary-kinds.ps μ-analyze-binary t)
-    analyze-binary.Pre
-
-abbrev pub analyze-binary-below : ℕ → In 4 analyze-binary-kinds.ps
-analyze-binary-below t =
-    and
-    4
-    analyze-binary-kinds.ps
-    (falls 4 analyze-binary-kinds.ps ◌<◌ μ-analyze-binary t)
-    analyze-binary.Pre
-
-abbrev pub analyze-call-at : ℕ → In 4 analyze-call-kinds.ps
-analyze-call-at t =
-    and 4 analyze-call-kinds.ps (is 4 analyze-call-kinds.ps μ-analyze-call t) analyze-call.Pre
-
-abbrev pub analyze-call-below : ℕ → In 4 analyze-call-kinds.ps
-analyze-call-below t =
-    and
-    4
-    analyze-call-kinds.ps
-    (falls 4 analyze-call-kinds.ps ◌<◌ μ-analyze-call t)
-    analyze-call.Pre
-
-abbrev pub analyze-expr-at : ℕ → In 4 analyze-expr-kinds.ps
-analyze-expr-at t =
-    and 4 analyze-expr-kinds.ps (is 4 analyze-expr-kinds.ps μ-analyze-expr t) analyze-expr.Pre
-
-abbrev pub analyze-expr-below : ℕ → In 4 analyze-expr-kinds.ps
-analyze-expr-below t =
-    and
-    4
-    analyze-expr-kinds.ps
-    (falls 4 analyze-expr-kinds.ps ◌<◌ μ-analyze-expr t)
-    analyze-expr.Pre
-
-abbrev pub analyze-init-at : ℕ → In 4 analyze-init-kinds.ps
-analyze-init-at t =
-    and 4 analyze-init-kinds.ps (is 4 analyze-init-kinds.ps μ-analyze-init t) analyze-init.Pre
-
-abbrev pub analyze-init-below : ℕ → In 4 analyze-init-kinds.ps
-analyze-init-below t =
-    and
-    4
-    analyze-init-kinds.ps
-    (falls 4 analyze-init-kinds.ps ◌<◌ μ-analyze-init t)
-    analyze-init.Pre
-
-abbrev pub analyze-inits-at : ℕ → In 4 analyze-inits-kinds.ps
-analyze-inits-at t =
-    and 4 analyze-inits-kinds.ps (is 4 analyze-inits-kinds.ps μ-analyze-inits t) analyze-inits.Pre
-
-abbrev pub analyze-inits-below : ℕ → In 4 analyze-inits-kinds.ps
-analyze-inits-below t =
-    and
-    4
-    analyze-inits-kinds.ps
-    (falls 4 analyze-inits-kinds.ps ◌<◌ μ-analyze-inits t)
-    analyze-inits.Pre
-
-abbrev pub analyze-literal-at : ℕ → In 4 analyze-literal-kinds.ps
-analyze-literal-at t =
-    and
-    4
-    analyze-literal-kinds.ps
-    (is 4 analyze-literal-kinds.ps μ-analyze-literal t)
-    analyze-literal.Pre
-
-abbrev pub analyze-literal-below : ℕ → In 4 analyze-literal-kinds.ps
-analyze-literal-below t =
-    and
-    4
-    analyze-literal-kinds.ps
-    (falls 4 analyze-literal-kinds.ps ◌<◌ μ-analyze-literal t)
-    analyze-literal.Pre
-
-abbrev pub analyze-mapping-at : ℕ → In 4 analyze-mapping-kinds.ps
-analyze-mapping-at t =
-    and
-    4
-    analyze-mapping-kinds.ps
-    (is 4 analyze-mapping-kinds.ps μ-analyze-mapping t)
-    analyze-mapping.Pre
-
-abbrev pub analyze-mapping-below : ℕ → In 4 analyze-mapping-kinds.ps
-analyze-mapping-below t =
-    and
-    4
-    analyze-mapping-kinds.ps
-    (falls 4 analyze-mapping-kinds.ps ◌<◌ μ-analyze-mapping t)
-    analyze-mapping.Pre
-
 pub analyze_access-analyze_expr-t-requires : goal.analyze_access-analyze_expr-t-requires
-analyze_access-analyze_expr-t-requires t c = (omega arith, c.requires.1)
+analyze_access-analyze_expr-t-requires t c = (omega arith, c.requires)
 
 pub analyze_access-field_of-requires : goal.analyze_access-field_of-requires
-analyze_access-field_of-requires t c = c.requires.1
+analyze_access-field_of-requires t c = c.requires
 
 pub analyze_access-returns-in-Is : goal.analyze_access-returns-in-Is
 unfolding typed_of expr expr_as
@@ -245,7 +45,7 @@ unfolding args_of
 analyze_args-returns-then-end-p t c = (args_done (contract_at c.args.img.now) c.args.d c.args.img.now (env_of c.args.img.now c.args.env.now c.args.top) (due_of c.args.img.now c.args.params) c.loop-i.i (misfit_of c.loop-i.m) _ (exprs_end (expr_at c.args.d c.args.img.now) c.args.img.now (c.args.left - c.loop-i.i) c.loop-i.p c.past-end.result c.if-end-p.true) ∙ sym c.loop-i.invariant.1.1.1, wrote (contract_at c.args.img.now) _ (sym (c.loop-i.invariant.0 ∙ args_all (contract_at c.args.img.now) _ (env_of c.args.img.now c.args.env.now c.args.top) _ (exprs_end (expr_at c.args.d c.args.img.now) c.args.img.now (c.args.left - c.loop-i.i) c.loop-i.p c.past-end.result c.if-end-p.true))))
 
 pub analyze_args-analyze_expr-t-requires : goal.analyze_args-analyze_expr-t-requires
-analyze_args-analyze_expr-t-requires t c = (omega arith, c.requires.1)
+analyze_args-analyze_expr-t-requires t c = (omega arith, c.requires)
 
 pub analyze_args-overflow_add-i : goal.analyze_args-overflow_add-i
 analyze_args-overflow_add-i t c = omega arith
@@ -266,10 +66,10 @@ unfolding args_of
 analyze_args-returns t c = (args_done (contract_at c.args.img.now) c.args.d c.args.img.now (env_of c.args.img.now c.args.env.now c.args.top) (due_of c.args.img.now c.args.params) c.loop-i.i (misfit_of c.loop-i.m) _ (exprs_zero (expr_at c.args.d c.args.img.now) c.args.img.now (c.args.left - c.loop-i.i) c.loop-i.p c.past-end.result (omega (arith, c.loop-i-test.false))) ∙ sym c.loop-i.invariant.1.1.1, wrote (contract_at c.args.img.now) _ (sym (c.loop-i.invariant.0 ∙ args_all (contract_at c.args.img.now) _ (env_of c.args.img.now c.args.env.now c.args.top) _ (exprs_zero (expr_at c.args.d c.args.img.now) c.args.img.now (c.args.left - c.loop-i.i) c.loop-i.p c.past-end.result (omega (arith, c.loop-i-test.false))))))
 
 pub analyze_binary-analyze_expr-a-requires : goal.analyze_binary-analyze_expr-a-requires
-analyze_binary-analyze_expr-a-requires t c = (omega arith, c.requires.1)
+analyze_binary-analyze_expr-a-requires t c = (omega arith, c.requires)
 
 pub analyze_binary-analyze_expr-b-requires : goal.analyze_binary-analyze_expr-b-requires
-analyze_binary-analyze_expr-b-requires t c = (omega arith, c.requires.1)
+analyze_binary-analyze_expr-b-requires t c = (omega arith, c.requires)
 
 pub analyze_binary-returns-in-Is-b : goal.analyze_binary-returns-in-Is-b
 unfolding typed_of expr expr_as of_expr
@@ -284,10 +84,10 @@ unfolding typed_of expr expr_as
 analyze_binary-returns-in-Refused t c = rw c.in-Refused.is ((then_bad _ (sym (ap (typed_of c.args.img.now) c.in-Refused.is) ∙ rw c.body-left.ensures.0 at c.analyze_expr-a.ensures.0)), refused (contract_at c.args.img.now) _ _ refl)
 
 pub analyze_call-callee_named-c-requires : goal.analyze_call-callee_named-c-requires
-analyze_call-callee_named-c-requires t c = c.requires.1
+analyze_call-callee_named-c-requires t c = c.requires
 
 pub analyze_call-analyze_args-v-requires : goal.analyze_call-analyze_args-v-requires
-analyze_call-analyze_args-v-requires t c = (omega arith, c.requires.1)
+analyze_call-analyze_args-v-requires t c = (omega arith, c.requires)
 
 pub analyze_call-returns-in-Done : goal.analyze_call-returns-in-Done
 unfolding expr expr_as args_of of_expr
@@ -302,19 +102,19 @@ unfolding typed_of ty_of expr of_expr
 analyze_expr-returns-then-d-eq0 t c = rw (at_zero c.args.d c.args.img.now c.args.at c.if-d-eq0.true) (refl, none_written (contract_at c.args.img.now) _ _)
 
 pub analyze_expr-analyze_mapping-requires : goal.analyze_expr-analyze_mapping-requires
-analyze_expr-analyze_mapping-requires t c = (omega arith, c.requires.1)
+analyze_expr-analyze_mapping-requires t c = (omega arith, c.requires)
 
 pub analyze_expr-analyze_access-requires : goal.analyze_expr-analyze_access-requires
-analyze_expr-analyze_access-requires t c = (omega arith, c.requires.1)
+analyze_expr-analyze_access-requires t c = (omega arith, c.requires)
 
 pub analyze_expr-analyze_literal-requires : goal.analyze_expr-analyze_literal-requires
-analyze_expr-analyze_literal-requires t c = (omega arith, c.requires.1)
+analyze_expr-analyze_literal-requires t c = (omega arith, c.requires)
 
 pub analyze_expr-analyze_binary-requires : goal.analyze_expr-analyze_binary-requires
-analyze_expr-analyze_binary-requires t c = (omega arith, c.requires.1)
+analyze_expr-analyze_binary-requires t c = (omega arith, c.requires)
 
 pub analyze_expr-analyze_call-requires : goal.analyze_expr-analyze_call-requires
-analyze_expr-analyze_call-requires t c = (omega arith, c.requires.1)
+analyze_expr-analyze_call-requires t c = (omega arith, c.requires)
 
 pub analyze_expr-returns-in-64 : goal.analyze_expr-returns-in-64
 unfolding typed_of ty_of expr expr_as kind_of pick of_expr
@@ -350,10 +150,10 @@ analyze_expr-returns-in-71 t c = rw (at_kind c.args.d c.args.img.now c.args.at c
 
 pub analyze_expr-returns-in_default : goal.analyze_expr-returns-in_default
 unfolding typed_of ty_of expr expr_as of_expr
-analyze_expr-returns-in_default t c = rw (at_kind c.args.d c.args.img.now c.args.at c.kind-k.result kOther c.if-d-eq0.false c.kind-k.ensures.0 (kind_other c.kind-k.result c.in_default.in_default-own.rest.0.0.0.0.0.0.0.1 c.in_default.in_default-own.rest.0.0.0.0.0.0.1 c.in_default.in_default-own.rest.0.0.0.0.0.1 c.in_default.in_default-own.rest.0.0.0.0.1 c.in_default.in_default-own.rest.0.0.0.1 c.in_default.in_default-own.rest.0.0.1 c.in_default.in_default-own.rest.0.1 c.in_default.in_default-own.rest.1)) (refl, none_written (contract_at c.args.img.now) _ _)
+analyze_expr-returns-in_default t c = rw (at_kind c.args.d c.args.img.now c.args.at c.kind-k.result kOther c.if-d-eq0.false c.kind-k.ensures.0 (kind_other c.kind-k.result (omega arith) (omega arith) (omega arith) (omega arith) (omega arith) (omega arith) (omega arith) (omega arith))) (refl, none_written (contract_at c.args.img.now) _ _)
 
 pub analyze_init-analyze_expr-t-requires : goal.analyze_init-analyze_expr-t-requires
-analyze_init-analyze_expr-t-requires t c = (omega arith, c.requires.1)
+analyze_init-analyze_expr-t-requires t c = (omega arith, c.requires)
 
 pub analyze_init-returns-in-Is : goal.analyze_init-returns-in-Is
 unfolding typed_of one_init
@@ -371,7 +171,7 @@ unfolding checked_of inits
 analyze_inits-returns-then-end-p t c = (sym (c.loop-k.invariant.1 ∙ rw (inits_end (expr_at c.args.d c.args.img.now) c.args.img.now c.loop-k.k c.loop-k.p c.past-end.result c.if-end-p.true)), wrote (contract_at c.args.img.now) _ (sym (c.loop-k.invariant.0 ∙ inits_all (contract_at c.args.img.now) _ (env_of c.args.img.now c.args.env.now c.args.top) _ (inits_end (expr_at c.args.d c.args.img.now) c.args.img.now c.loop-k.k c.loop-k.p c.past-end.result c.if-end-p.true))))
 
 pub analyze_inits-analyze_init-fit-requires : goal.analyze_inits-analyze_init-fit-requires
-analyze_inits-analyze_init-fit-requires t c = (omega arith, c.requires.1)
+analyze_inits-analyze_init-fit-requires t c = (omega arith, c.requires)
 
 pub analyze_inits-loop-k-smaller : goal.analyze_inits-loop-k-smaller
 analyze_inits-loop-k-smaller t c = omega arith
@@ -389,10 +189,10 @@ unfolding checked_of inits
 analyze_inits-returns t c = (sym (c.loop-k.invariant.1 ∙ rw (inits_zero (expr_at c.args.d c.args.img.now) c.args.img.now c.loop-k.k c.loop-k.p c.past-end.result c.loop-k-test.false)), wrote (contract_at c.args.img.now) _ (sym (c.loop-k.invariant.0 ∙ inits_all (contract_at c.args.img.now) _ (env_of c.args.img.now c.args.env.now c.args.top) _ (inits_zero (expr_at c.args.d c.args.img.now) c.args.img.now c.loop-k.k c.loop-k.p c.past-end.result c.loop-k-test.false))))
 
 pub analyze_literal-struct_named-s-requires : goal.analyze_literal-struct_named-s-requires
-analyze_literal-struct_named-s-requires t c = c.requires.1
+analyze_literal-struct_named-s-requires t c = c.requires
 
 pub analyze_literal-analyze_inits-k-requires : goal.analyze_literal-analyze_inits-k-requires
-analyze_literal-analyze_inits-k-requires t c = (omega arith, c.requires.1)
+analyze_literal-analyze_inits-k-requires t c = (omega arith, c.requires)
 
 pub analyze_literal-returns-in-Fine : goal.analyze_literal-returns-in-Fine
 unfolding typed_of ty_of expr expr_as place_of mapped struct_named checked_of of_expr
@@ -407,7 +207,7 @@ unfolding typed_of fault_of expr expr_as place_of mapped struct_named
 analyze_literal-returns-in-Nothing t c = (rw c.body-x.ensures.0 (then_bad _ (known_none _ (sym (ap (λ (o : Found). mapped (struct_at c.args.img.now) (place_of o)) c.in-Nothing.is) ∙ rw c.body-x.ensures.0 at (struct_is c.args.img.now c.body-x.result _ c.struct_named-s.ensures)))), refused (contract_at c.args.img.now) _ _ refl)
 
 pub analyze_mapping-analyze_expr-t-requires : goal.analyze_mapping-analyze_expr-t-requires
-analyze_mapping-analyze_expr-t-requires t c = (omega arith, c.requires.1)
+analyze_mapping-analyze_expr-t-requires t c = (omega arith, c.requires)
 
 pub analyze_mapping-returns-in-Is : goal.analyze_mapping-returns-in-Is
 unfolding typed_of expr expr_as ty_of of_expr

@@ -44,7 +44,7 @@ pub in_function-requires : goal.in_function-requires
 in_function-requires c = given c.function_of-k.result c.requires.checked (omega (arith, c.function_count-count.ensures c.args.img.now c.requires.checked.known.0, c.function_of-k.ensures.within (omega (arith, c.function_count-count.ensures c.args.img.now c.requires.checked.known.0, c.requires.some)))) (c.function_place.ensures c.args.img.now c.requires.checked.known.0 (omega (arith, c.function_count-count.ensures c.args.img.now c.requires.checked.known.0, c.function_of-k.ensures.within (omega (arith, c.function_count-count.ensures c.args.img.now c.requires.checked.known.0, c.requires.some))))) c.requires.size
 
 pub shape_of-scope : goal.shape_of-scope
-shape_of-scope c = c.in_function.auto.0
+shape_of-scope c = c.in_function.auto.scope
 
 pub returns : goal.returns
 returns c = opened_in c.if-want-lt3.false (c.function_count-count.ensures c.args.img.now c.requires.checked.known.0) c.requires.some c.function_of-k.ensures (c.function_place.ensures c.args.img.now c.requires.checked.known.0 (omega (arith, c.function_count-count.ensures c.args.img.now c.requires.checked.known.0, c.function_of-k.ensures.within (omega (arith, c.function_count-count.ensures c.args.img.now c.requires.checked.known.0, c.requires.some))))) refl (⊎_elim (λ w. ahead w.0.taken w.2) (λ w. behind w.0.left w.1) c.if-k-count.branch) c.in_function.ensures

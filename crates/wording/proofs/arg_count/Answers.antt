@@ -5,7 +5,6 @@ use lib.ListN.{length-append}
 use Rattle.rules.specs.Bytes.{name_at}
 use Rattle.rules.specs.Texts.{bytes, decimal}
 use Rattle.pieces.specs.Lays.{lays_then}
-use borrow.Author.Rules.{rules}
 use Rattle.wording.proofs.arg_count.Goals as goal
 
 pub put-i-requires : goal.put-i-requires
@@ -14,23 +13,23 @@ put-i-requires c = omega (arith, c.requires, length-append (name_at c.args.img.n
 
 pub put_name-j-requires : goal.put_name-j-requires
 unfolding bytes
-put_name-j-requires c = omega (arith, c.requires, length-append (name_at c.args.img.now c.args.f) (bytes " expects " ++ (decimal c.args.a ++ (bytes " args, got " ++ decimal c.args.b))), length-append (decimal c.args.a) (bytes " args, got " ++ decimal c.args.b), c.put-i.ensures.past, c.put-i.auto.0)
+put_name-j-requires c = omega (arith, c.requires, length-append (name_at c.args.img.now c.args.f) (bytes " expects " ++ (decimal c.args.a ++ (bytes " args, got " ++ decimal c.args.b))), length-append (decimal c.args.a) (bytes " args, got " ++ decimal c.args.b), c.put-i.ensures.past, c.put-i.auto.out)
 
 pub put-k-requires : goal.put-k-requires
 unfolding bytes
-put-k-requires c = omega (arith, c.requires, length-append (name_at c.args.img.now c.args.f) (bytes " expects " ++ (decimal c.args.a ++ (bytes " args, got " ++ decimal c.args.b))), length-append (decimal c.args.a) (bytes " args, got " ++ decimal c.args.b), c.put-i.ensures.past, c.put-i.auto.0, c.put_name-j.ensures.past, c.put_name-j.auto.0)
+put-k-requires c = omega (arith, c.requires, length-append (name_at c.args.img.now c.args.f) (bytes " expects " ++ (decimal c.args.a ++ (bytes " args, got " ++ decimal c.args.b))), length-append (decimal c.args.a) (bytes " args, got " ++ decimal c.args.b), c.put-i.ensures.past, c.put-i.auto.out, c.put_name-j.ensures.past, c.put_name-j.auto.out)
 
 pub put_number-l-requires : goal.put_number-l-requires
 unfolding bytes
-put_number-l-requires c = omega (arith, c.requires, length-append (name_at c.args.img.now c.args.f) (bytes " expects " ++ (decimal c.args.a ++ (bytes " args, got " ++ decimal c.args.b))), length-append (decimal c.args.a) (bytes " args, got " ++ decimal c.args.b), c.put-i.ensures.past, c.put-i.auto.0, c.put_name-j.ensures.past, c.put_name-j.auto.0, c.put-k.ensures.past, c.put-k.auto.0)
+put_number-l-requires c = omega (arith, c.requires, length-append (name_at c.args.img.now c.args.f) (bytes " expects " ++ (decimal c.args.a ++ (bytes " args, got " ++ decimal c.args.b))), length-append (decimal c.args.a) (bytes " args, got " ++ decimal c.args.b), c.put-i.ensures.past, c.put-i.auto.out, c.put_name-j.ensures.past, c.put_name-j.auto.out, c.put-k.ensures.past, c.put-k.auto.out)
 
 pub put-m-requires : goal.put-m-requires
 unfolding bytes
-put-m-requires c = omega (arith, c.requires, length-append (name_at c.args.img.now c.args.f) (bytes " expects " ++ (decimal c.args.a ++ (bytes " args, got " ++ decimal c.args.b))), length-append (decimal c.args.a) (bytes " args, got " ++ decimal c.args.b), c.put-i.ensures.past, c.put-i.auto.0, c.put_name-j.ensures.past, c.put_name-j.auto.0, c.put-k.ensures.past, c.put-k.auto.0, c.put_number-l.ensures.past, c.put_number-l.auto.0)
+put-m-requires c = omega (arith, c.requires, length-append (name_at c.args.img.now c.args.f) (bytes " expects " ++ (decimal c.args.a ++ (bytes " args, got " ++ decimal c.args.b))), length-append (decimal c.args.a) (bytes " args, got " ++ decimal c.args.b), c.put-i.ensures.past, c.put-i.auto.out, c.put_name-j.ensures.past, c.put_name-j.auto.out, c.put-k.ensures.past, c.put-k.auto.out, c.put_number-l.ensures.past, c.put_number-l.auto.out)
 
 pub put_number-requires : goal.put_number-requires
 unfolding bytes
-put_number-requires c = omega (arith, c.requires, length-append (name_at c.args.img.now c.args.f) (bytes " expects " ++ (decimal c.args.a ++ (bytes " args, got " ++ decimal c.args.b))), length-append (decimal c.args.a) (bytes " args, got " ++ decimal c.args.b), c.put-i.ensures.past, c.put-i.auto.0, c.put_name-j.ensures.past, c.put_name-j.auto.0, c.put-k.ensures.past, c.put-k.auto.0, c.put_number-l.ensures.past, c.put_number-l.auto.0, c.put-m.ensures.past, c.put-m.auto.0)
+put_number-requires c = omega (arith, c.requires, length-append (name_at c.args.img.now c.args.f) (bytes " expects " ++ (decimal c.args.a ++ (bytes " args, got " ++ decimal c.args.b))), length-append (decimal c.args.a) (bytes " args, got " ++ decimal c.args.b), c.put-i.ensures.past, c.put-i.auto.out, c.put_name-j.ensures.past, c.put_name-j.auto.out, c.put-k.ensures.past, c.put-k.auto.out, c.put_number-l.ensures.past, c.put_number-l.auto.out, c.put-m.ensures.past, c.put-m.auto.out)
 
 pub returns : goal.returns
 unfolding bytes

@@ -5,7 +5,6 @@ use lib.ListN.{length-append}
 use Rattle.rules.specs.Bytes.{name_at}
 use Rattle.rules.specs.Texts.{bytes, decimal}
 use Rattle.pieces.specs.Lays.{lays_then}
-use borrow.Author.Rules.{rules}
 use Rattle.wording.proofs.arg_type.Goals as goal
 
 pub put-k-requires : goal.put-k-requires
@@ -14,15 +13,15 @@ put-k-requires c = omega (arith, c.requires, length-append (decimal c.args.i) (b
 
 pub put_number-l-requires : goal.put_number-l-requires
 unfolding bytes
-put_number-l-requires c = omega (arith, c.requires, length-append (decimal c.args.i) (bytes " type mismatch in " ++ name_at c.args.img.now c.args.f), c.put-k.ensures.past, c.put-k.auto.0)
+put_number-l-requires c = omega (arith, c.requires, length-append (decimal c.args.i) (bytes " type mismatch in " ++ name_at c.args.img.now c.args.f), c.put-k.ensures.past, c.put-k.auto.out)
 
 pub put-m-requires : goal.put-m-requires
 unfolding bytes
-put-m-requires c = omega (arith, c.requires, length-append (decimal c.args.i) (bytes " type mismatch in " ++ name_at c.args.img.now c.args.f), c.put-k.ensures.past, c.put-k.auto.0, c.put_number-l.ensures.past, c.put_number-l.auto.0)
+put-m-requires c = omega (arith, c.requires, length-append (decimal c.args.i) (bytes " type mismatch in " ++ name_at c.args.img.now c.args.f), c.put-k.ensures.past, c.put-k.auto.out, c.put_number-l.ensures.past, c.put_number-l.auto.out)
 
 pub put_name-requires : goal.put_name-requires
 unfolding bytes
-put_name-requires c = omega (arith, c.requires, length-append (decimal c.args.i) (bytes " type mismatch in " ++ name_at c.args.img.now c.args.f), c.put-k.ensures.past, c.put-k.auto.0, c.put_number-l.ensures.past, c.put_number-l.auto.0, c.put-m.ensures.past, c.put-m.auto.0)
+put_name-requires c = omega (arith, c.requires, length-append (decimal c.args.i) (bytes " type mismatch in " ++ name_at c.args.img.now c.args.f), c.put-k.ensures.past, c.put-k.auto.out, c.put_number-l.ensures.past, c.put_number-l.auto.out, c.put-m.ensures.past, c.put-m.auto.out)
 
 pub returns : goal.returns
 unfolding bytes

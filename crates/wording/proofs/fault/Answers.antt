@@ -1,7 +1,6 @@
 -- `wording::fault` meets its contract: each arm is a line of the table.
 use Rattle.rules.specs.Texts.{bytes, text_of}
 use Rattle.lookup.specs.Answers.{fault_of}
-use borrow.Author.Rules.{rules}
 use Rattle.wording.proofs.fault.Goals as goal
 
 pub named-requires : goal.named-requires

@@ -3,7 +3,6 @@ use Rattle.rules.specs.Texts.{bytes, text_of}
 use borrow.Author.Tests.{ne_eqb}
 use Rattle.rules.specs.Bytes.{pick}
 use Rattle.bounds.specs.Texts.{generated_as}
-use borrow.Author.Rules.{rules}
 use Rattle.wording.proofs.generation.Goals as goal
 
 pub put-requires : goal.put-requires

@@ -4,7 +4,6 @@ use lib.ListN.{length-append}
 use Rattle.rules.specs.Bytes.{name_at}
 use Rattle.rules.specs.Texts.{bytes}
 use Rattle.pieces.specs.Lays.{lays_then}
-use borrow.Author.Rules.{rules}
 use Rattle.wording.proofs.init_type.Goals as goal
 
 pub put-k-requires : goal.put-k-requires
@@ -13,11 +12,11 @@ put-k-requires c = omega (arith, c.requires, length-append (name_at c.args.img.n
 
 pub put_name-l-requires : goal.put_name-l-requires
 unfolding bytes
-put_name-l-requires c = omega (arith, c.requires, length-append (name_at c.args.img.now c.args.x) (bytes " type mismatch"), c.put-k.ensures.past, c.put-k.auto.0)
+put_name-l-requires c = omega (arith, c.requires, length-append (name_at c.args.img.now c.args.x) (bytes " type mismatch"), c.put-k.ensures.past, c.put-k.auto.out)
 
 pub put-requires : goal.put-requires
 unfolding bytes
-put-requires c = omega (arith, c.requires, length-append (name_at c.args.img.now c.args.x) (bytes " type mismatch"), c.put-k.ensures.past, c.put-k.auto.0, c.put_name-l.ensures.past, c.put_name-l.auto.0)
+put-requires c = omega (arith, c.requires, length-append (name_at c.args.img.now c.args.x) (bytes " type mismatch"), c.put-k.ensures.past, c.put-k.auto.out, c.put_name-l.ensures.past, c.put_name-l.auto.out)
 
 pub returns : goal.returns
 unfolding bytes

@@ -5,7 +5,6 @@ use lib.ListN.{length-append}
 use Rattle.rules.specs.Bytes.{name_at}
 use Rattle.rules.specs.Texts.{bytes}
 use Rattle.pieces.specs.Lays.{lays_then}
-use borrow.Author.Rules.{rules}
 use Rattle.wording.proofs.no_field.Goals as goal
 
 pub put-k-requires : goal.put-k-requires
@@ -14,15 +13,15 @@ put-k-requires c = omega (arith, c.requires, length-append (name_at c.args.img.n
 
 pub put_name-l-requires : goal.put_name-l-requires
 unfolding bytes
-put_name-l-requires c = omega (arith, c.requires, length-append (name_at c.args.img.now c.args.s) (bytes " has no field " ++ name_at c.args.img.now c.args.x), c.put-k.ensures.past, c.put-k.auto.0)
+put_name-l-requires c = omega (arith, c.requires, length-append (name_at c.args.img.now c.args.s) (bytes " has no field " ++ name_at c.args.img.now c.args.x), c.put-k.ensures.past, c.put-k.auto.out)
 
 pub put-m-requires : goal.put-m-requires
 unfolding bytes
-put-m-requires c = omega (arith, c.requires, length-append (name_at c.args.img.now c.args.s) (bytes " has no field " ++ name_at c.args.img.now c.args.x), c.put-k.ensures.past, c.put-k.auto.0, c.put_name-l.ensures.past, c.put_name-l.auto.0)
+put-m-requires c = omega (arith, c.requires, length-append (name_at c.args.img.now c.args.s) (bytes " has no field " ++ name_at c.args.img.now c.args.x), c.put-k.ensures.past, c.put-k.auto.out, c.put_name-l.ensures.past, c.put_name-l.auto.out)
 
 pub put_name-requires : goal.put_name-requires
 unfolding bytes
-put_name-requires c = omega (arith, c.requires, length-append (name_at c.args.img.now c.args.s) (bytes " has no field " ++ name_at c.args.img.now c.args.x), c.put-k.ensures.past, c.put-k.auto.0, c.put_name-l.ensures.past, c.put_name-l.auto.0, c.put-m.ensures.past, c.put-m.auto.0)
+put_name-requires c = omega (arith, c.requires, length-append (name_at c.args.img.now c.args.s) (bytes " has no field " ++ name_at c.args.img.now c.args.x), c.put-k.ensures.past, c.put-k.auto.out, c.put_name-l.ensures.past, c.put_name-l.auto.out, c.put-m.ensures.past, c.put-m.auto.out)
 
 pub returns : goal.returns
 unfolding bytes

@@ -1,7 +1,6 @@
 -- `wording::put_type` meets its contract: each arm is a line of the table.
 use Rattle.rules.specs.Texts.{bytes, type_text}
 use Rattle.lookup.specs.Answers.{ty_of}
-use borrow.Author.Rules.{rules}
 use Rattle.wording.proofs.put_type.Goals as goal
 
 pub put-requires : goal.put-requires

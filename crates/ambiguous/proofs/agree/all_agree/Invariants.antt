@@ -1,13 +1,9 @@
 -- all_agree meets its contract.
 use Prim.Native.Nat.{ℕ, ◌-◌, ◌≤◌, ◌<◌}
-use Rattle.ambiguous.proofs.Agreed.{one_struct, agreed}
 use Rattle.ambiguous.specs.Slots.{Held}
-use Rattle.records.specs.Names.{never}
 use Rattle.rules.specs.Read.{second}
 use Rattle.tables.specs.Listed.{structs_in}
 use lib.ListN.{get_or}
-use native.Mathlib.Omega.{arith}
-use borrow.Author.Rules.{rules}
 use Rattle.ambiguous.proofs.agree.all_agree.Given as goal
 
 abbrev pub invariant-loop-i : goal.invariant-loop-i

@@ -1,10 +1,8 @@
 -- forget meets its contract.
-use mathlib.Core.Path.{◌≡◌, refl}
-use Prim.Native.Nat.{ℕ, ◌-◌, ◌≤◌, ◌<◌}
+use mathlib.Core.Path.{refl}
 use native.Mathlib.Omega.{arith}
-use lib.ListN.{length, get_or, length-set}
+use lib.ListN.{length-set}
 use Rattle.ambiguous.proofs.Agreed.{one_more}
-use borrow.Author.Rules.{rules}
 use Rattle.ambiguous.proofs.agree.forget.Goals as goal
 
 pub loop-i-init : goal.loop-i-init

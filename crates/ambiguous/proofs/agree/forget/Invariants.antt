@@ -1,10 +1,7 @@
 -- forget meets its contract.
-use mathlib.Core.Path.{◌≡◌, refl}
+use mathlib.Core.Path.{◌≡◌}
 use Prim.Native.Nat.{ℕ, ◌-◌, ◌≤◌, ◌<◌}
-use native.Mathlib.Omega.{arith}
-use lib.ListN.{length, get_or, length-set}
-use Rattle.ambiguous.proofs.Agreed.{one_more}
-use borrow.Author.Rules.{rules}
+use lib.ListN.{length, get_or}
 use Rattle.ambiguous.proofs.agree.forget.Given as goal
 
 abbrev pub invariant-loop-i : goal.invariant-loop-i

@@ -3,7 +3,6 @@ use Rattle.ambiguous.proofs.Agreed.{put_there, was_there}
 use Rattle.records.specs.Names.{never}
 use lib.ListN.{length-set}
 use native.Mathlib.Omega.{arith}
-use borrow.Author.Rules.{rules}
 use Rattle.ambiguous.proofs.agree.note.Goals as goal
 
 pub overflow_mul-v : goal.overflow_mul-v

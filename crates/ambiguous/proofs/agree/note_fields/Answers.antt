@@ -1,13 +1,8 @@
 -- note_fields meets its contract.
-use Prim.Native.Nat.{◌-◌, ◌≤◌}
-use Rattle.ambiguous.proofs.Agreed.{ext_refl, ext_trans, Told, begin_fields, end_fields, end_count, one_field}
-use Rattle.ambiguous.specs.Slots.{Extends}
+use Rattle.ambiguous.proofs.Agreed.{ext_refl, ext_trans, begin_fields, end_fields, end_count, one_field}
 use Rattle.records.specs.Names.{never}
-use borrow.Author.Tests.{ltb-true, ltb-false}
-use lib.ListN.{length}
-use mathlib.Core.Path.{◌≡◌, refl, ◌∙◌}
+use mathlib.Core.Path.{refl, ◌∙◌}
 use native.Mathlib.Omega.{arith}
-use borrow.Author.Rules.{rules}
 use Rattle.ambiguous.proofs.agree.note_fields.Goals as goal
 
 pub loop-n-init : goal.loop-n-init
@@ -17,10 +12,10 @@ pub loop-n-smaller : goal.loop-n-smaller
 loop-n-smaller c = omega (arith, c.loop-n-test.true)
 
 pub loop-n-preserved : goal.loop-n-preserved
-loop-n-preserved c = (c.note.auto.0 ∙ c.loop-n.invariant.0, (omega arith, (ext_trans c.loop-n.invariant.1.1.0 (c.note.ensures c.if-note.true).extends, rw c.past-p.ensures.0 (one_field c.args.img.now c.args.l _ _ _ _ _ c.loop-n-test.true c.if-p-end.true c.loop-n.invariant.1.1.1 (rw (c.name_key-key.ensures, c.body.ensures.0) at (c.note.ensures c.if-note.true))))))
+loop-n-preserved c = (c.note.auto.seen ∙ c.loop-n.invariant.0, (omega arith, (ext_trans c.loop-n.invariant.1.1.0 (c.note.ensures c.if-note.true).extends, rw c.past-p.ensures.0 (one_field c.args.img.now c.args.l _ _ _ _ _ c.loop-n-test.true c.if-p-end.true c.loop-n.invariant.1.1.1 (rw (c.name_key-key.ensures, c.body.ensures.0) at (c.note.ensures c.if-note.true))))))
 
 pub shape_of-seen-else-note : goal.shape_of-seen-else-note
-shape_of-seen-else-note c = c.note.auto.0 ∙ c.loop-n.invariant.0
+shape_of-seen-else-note c = c.note.auto.seen ∙ c.loop-n.invariant.0
 
 pub returns-else-note : goal.returns-else-note
 returns-else-note c = λ e. never e

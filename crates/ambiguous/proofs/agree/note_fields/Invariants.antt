@@ -1,13 +1,9 @@
 -- note_fields meets its contract.
 use Prim.Native.Nat.{◌-◌, ◌≤◌}
-use Rattle.ambiguous.proofs.Agreed.{ext_refl, ext_trans, Told, begin_fields, end_fields, end_count, one_field}
+use Rattle.ambiguous.proofs.Agreed.{Told}
 use Rattle.ambiguous.specs.Slots.{Extends}
-use Rattle.records.specs.Names.{never}
-use borrow.Author.Tests.{ltb-true, ltb-false}
 use lib.ListN.{length}
-use mathlib.Core.Path.{◌≡◌, refl, ◌∙◌}
-use native.Mathlib.Omega.{arith}
-use borrow.Author.Rules.{rules}
+use mathlib.Core.Path.{◌≡◌}
 use Rattle.ambiguous.proofs.agree.note_fields.Given as goal
 
 abbrev pub invariant-loop-n : goal.invariant-loop-n

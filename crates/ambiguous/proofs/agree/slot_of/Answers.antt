@@ -1,6 +1,5 @@
 -- slot_of meets its contract.
-use Rattle.ambiguous.proofs.Agreed.{Way, starts, passes_by, free_slot, own_slot, no_slot}
-use borrow.Author.Rules.{rules}
+use Rattle.ambiguous.proofs.Agreed.{starts, passes_by, free_slot, own_slot, no_slot}
 use Rattle.ambiguous.proofs.agree.slot_of.Goals as goal
 
 pub loop-left-init : goal.loop-left-init

@@ -1,6 +1,5 @@
 -- slot_of meets its contract.
-use Rattle.ambiguous.proofs.Agreed.{Way, starts, passes_by, free_slot, own_slot, no_slot}
-use borrow.Author.Rules.{rules}
+use Rattle.ambiguous.proofs.Agreed.{Way}
 use Rattle.ambiguous.proofs.agree.slot_of.Given as goal
 
 abbrev pub invariant-loop-left : goal.invariant-loop-left

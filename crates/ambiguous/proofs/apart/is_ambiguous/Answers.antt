@@ -1,13 +1,11 @@
 -- is_ambiguous meets its contract.
-use Prim.Native.Nat.{◌-◌, ◌≤◌}
 use Rattle.ambiguous.proofs.Clashes.{remains, begins, hits, passes, ends}
-use Rattle.fields.specs.Spots.{spot_of, positions_from}
+use Rattle.fields.specs.Spots.{spot_of}
 use Rattle.fields.specs.Steps.{past_all}
 use Rattle.ambiguous.specs.Spots.{unsure}
 use Rattle.rules.specs.Read.{contract_at}
-use mathlib.Core.Path.{◌≡◌, sym, ap, ◌∙◌}
+use mathlib.Core.Path.{sym, ap, ◌∙◌}
 use native.Mathlib.Omega.{arith}
-use borrow.Author.Rules.{rules}
 use Rattle.ambiguous.proofs.apart.is_ambiguous.Goals as goal
 
 pub loop-i-init : goal.loop-i-init

@@ -1,13 +1,10 @@
 -- is_ambiguous meets its contract.
 use Prim.Native.Nat.{◌-◌, ◌≤◌}
-use Rattle.ambiguous.proofs.Clashes.{remains, begins, hits, passes, ends}
+use Rattle.ambiguous.proofs.Clashes.{remains}
 use Rattle.fields.specs.Spots.{spot_of, positions_from}
-use Rattle.fields.specs.Steps.{past_all}
 use Rattle.ambiguous.specs.Spots.{unsure}
 use Rattle.rules.specs.Read.{contract_at}
-use mathlib.Core.Path.{◌≡◌, sym, ap, ◌∙◌}
-use native.Mathlib.Omega.{arith}
-use borrow.Author.Rules.{rules}
+use mathlib.Core.Path.{◌≡◌}
 use Rattle.ambiguous.proofs.apart.is_ambiguous.Given as goal
 
 abbrev pub invariant-loop-i : goal.invariant-loop-i

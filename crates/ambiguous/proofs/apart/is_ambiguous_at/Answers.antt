@@ -3,7 +3,6 @@ use mathlib.Core.Path.{◌∙◌, sym, ap}
 use Rattle.notes.specs.Notes.{note_of}
 use Rattle.notes.specs.Left.{clear_one, clear_none}
 use Rattle.ambiguous.specs.Spots.{unsure}
-use borrow.Author.Rules.{rules}
 use Rattle.ambiguous.proofs.apart.is_ambiguous_at.Goals as goal
 
 pub is_ambiguous-requires : goal.is_ambiguous-requires

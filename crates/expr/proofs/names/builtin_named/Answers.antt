@@ -2,13 +2,11 @@
 use Rattle.expr.proofs.Asked.{is_poseidon, is_sender, is_nonce, is_number, is_merkle, is_none}
 use Rattle.expr.specs.Names.{builtin_of}
 use mathlib.Core.Path.{sym, ◌∙◌}
-use borrow.Author.Tests.{not-true}
-use borrow.Author.Rules.{rules}
 use Rattle.expr.proofs.names.builtin_named.Goals as goal
 
 pub returns-then-not-may_be_builtin : goal.returns-then-not-may_be_builtin
 unfolding builtin_of
-returns-then-not-may_be_builtin c = sym (c.may_be_builtin.ensures (not-true _ c.if-not-may_be_builtin.true) _ (sym c.name_key.ensures))
+returns-then-not-may_be_builtin c = sym (c.may_be_builtin.ensures c.if-not-may_be_builtin.true _ (sym c.name_key.ensures))
 
 -- src/names.rt:81:9
 pub returns-then-is_name : goal.returns-then-is_name

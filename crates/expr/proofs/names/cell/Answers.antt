@@ -1,7 +1,6 @@
 -- `cell` meets its contract.
 use lib.ListN.{get_or-eq_default}
 use mathlib.Core.Path.{sym}
-use borrow.Author.Rules.{rules}
 use Rattle.expr.proofs.names.cell.Goals as goal
 
 -- src/names.rt:42:1

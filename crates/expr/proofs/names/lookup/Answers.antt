@@ -1,13 +1,8 @@
 -- `lookup` meets its contract.
 use Rattle.expr.proofs.Find.{find_hit, skip_name, skip_key, find_none}
 use Rattle.expr.specs.Names.{reg_of}
-use Rattle.expr.specs.Scope.{scope_of, scope_in}
-use Rattle.rules.specs.Emit.{find}
-use Rattle.rules.specs.Bytes.{name_at}
-use Prim.Native.Nat.{◌≤◌}
 use native.Mathlib.Omega.{arith}
-use mathlib.Core.Path.{◌≡◌, refl, sym, ◌∙◌}
-use borrow.Author.Rules.{rules}
+use mathlib.Core.Path.{refl, sym, ◌∙◌}
 use Rattle.expr.proofs.names.lookup.Goals as goal
 
 pub loop-k-init : goal.loop-k-init

@@ -1,9 +1,7 @@
 -- `pop_bytes` meets its contract.
-use Rattle.expr.specs.Runs.{pops, bytes, Laying, begins, bytes_go, bytes_end, bytes_last}
-use Prim.Native.Nat.{◌-◌}
+use Rattle.expr.specs.Runs.{pops, bytes, begins, bytes_go, bytes_end, bytes_last}
 use native.Mathlib.Omega.{arith}
 use mathlib.Core.Path.{◌∙◌}
-use borrow.Author.Rules.{rules}
 use Rattle.expr.proofs.runs.pop_bytes.Goals as goal
 
 pub loop-j-init : goal.loop-j-init
@@ -25,7 +23,7 @@ pub overflow_sub-k-then-j-end : goal.overflow_sub-k-then-j-end
 overflow_sub-k-then-j-end c = omega (arith, c.if-j-end.true, c.loop-j.invariant.place, c.requires)
 
 pub shape_of-bytes-then-j-end : goal.shape_of-bytes-then-j-end
-shape_of-bytes-then-j-end c = c.lay_word.auto.0 ∙ c.loop-j.invariant.room
+shape_of-bytes-then-j-end c = c.lay_word.auto.bytes ∙ c.loop-j.invariant.room
 
 pub returns-then-j-end : goal.returns-then-j-end
 returns-then-j-end c = bytes_last (pops c.args.k) c.args.n c.args.end 0 c.args.bytes.now c.loop-j.invariant (omega (arith, c.loop-j-test.false, c.least-stop.ensures)) c.if-j-end.true c.word-then-j-end.ensures c.lay_word.ensures

@@ -1,9 +1,6 @@
 -- `pop_bytes` meets its contract.
-use Rattle.expr.specs.Runs.{pops, bytes, Laying, begins, bytes_go, bytes_end, bytes_last}
+use Rattle.expr.specs.Runs.{pops, bytes, Laying}
 use Prim.Native.Nat.{◌-◌}
-use native.Mathlib.Omega.{arith}
-use mathlib.Core.Path.{◌∙◌}
-use borrow.Author.Rules.{rules}
 use Rattle.expr.proofs.runs.pop_bytes.Given as goal
 
 abbrev pub invariant-loop-j : goal.invariant-loop-j

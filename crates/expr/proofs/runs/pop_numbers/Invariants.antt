@@ -1,8 +1,6 @@
 -- `pop_numbers` meets its contract.
-use Rattle.expr.specs.Runs.{pops, numbers, Laying, begins, numbers_go, numbers_end}
+use Rattle.expr.specs.Runs.{pops, numbers, Laying}
 use Prim.Native.Nat.{◌-◌}
-use native.Mathlib.Omega.{arith}
-use borrow.Author.Rules.{rules}
 use Rattle.expr.proofs.runs.pop_numbers.Given as goal
 
 abbrev pub invariant-loop-j : goal.invariant-loop-j

@@ -1,9 +1,7 @@
 -- `push_bytes` meets its contract.
-use Rattle.expr.specs.Runs.{pushes, bytes, Laying, begins, bytes_go, bytes_end, bytes_last}
-use Prim.Native.Nat.{◌+◌, ◌-◌}
+use Rattle.expr.specs.Runs.{pushes, bytes, begins, bytes_go, bytes_end, bytes_last}
 use native.Mathlib.Omega.{arith}
 use mathlib.Core.Path.{◌∙◌}
-use borrow.Author.Rules.{rules}
 use Rattle.expr.proofs.runs.push_bytes.Goals as goal
 
 pub loop-j-init : goal.loop-j-init
@@ -22,7 +20,7 @@ pub overflow_add-i-then-j-end : goal.overflow_add-i-then-j-end
 overflow_add-i-then-j-end c = omega (arith, c.if-j-end.true, c.loop-j.invariant.place)
 
 pub shape_of-bytes-then-j-end : goal.shape_of-bytes-then-j-end
-shape_of-bytes-then-j-end c = c.lay_word.auto.0 ∙ c.loop-j.invariant.room
+shape_of-bytes-then-j-end c = c.lay_word.auto.bytes ∙ c.loop-j.invariant.room
 
 pub returns-then-j-end : goal.returns-then-j-end
 returns-then-j-end c = bytes_last pushes c.args.n c.args.end 1 c.args.bytes.now c.loop-j.invariant (omega (arith, c.loop-j-test.false, c.least-stop.ensures)) c.if-j-end.true c.word-then-j-end.ensures c.lay_word.ensures

@@ -1,8 +1,6 @@
 -- `push_numbers` meets its contract.
-use Rattle.expr.specs.Runs.{pushes, numbers, Laying, begins, numbers_go, numbers_end}
-use Prim.Native.Nat.{◌+◌, ◌-◌}
+use Rattle.expr.specs.Runs.{pushes, numbers, begins, numbers_go, numbers_end}
 use native.Mathlib.Omega.{arith}
-use borrow.Author.Rules.{rules}
 use Rattle.expr.proofs.runs.push_numbers.Goals as goal
 
 pub loop-j-init : goal.loop-j-init

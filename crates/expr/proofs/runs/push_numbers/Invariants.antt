@@ -1,8 +1,6 @@
 -- `push_numbers` meets its contract.
-use Rattle.expr.specs.Runs.{pushes, numbers, Laying, begins, numbers_go, numbers_end}
+use Rattle.expr.specs.Runs.{pushes, numbers, Laying}
 use Prim.Native.Nat.{◌+◌, ◌-◌}
-use native.Mathlib.Omega.{arith}
-use borrow.Author.Rules.{rules}
 use Rattle.expr.proofs.runs.push_numbers.Given as goal
 
 abbrev pub invariant-loop-j : goal.invariant-loop-j

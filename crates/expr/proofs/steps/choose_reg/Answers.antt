@@ -1,6 +1,5 @@
 -- `choose_reg` meets its contract.
 use Rattle.expr.proofs.Chain.{left_chosen, right_chosen, new_chosen}
-use borrow.Author.Rules.{rules}
 use Rattle.expr.proofs.steps.choose_reg.Goals as goal
 
 pub returns-then-n-left : goal.returns-then-n-left

@@ -1,6 +1,5 @@
 -- `combine` meets its contract.
 use Rattle.expr.proofs.Chain.{combines}
-use borrow.Author.Rules.{rules}
 use Rattle.expr.proofs.steps.combine.Goals as goal
 
 pub returns : goal.returns

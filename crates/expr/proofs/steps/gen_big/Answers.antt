@@ -1,6 +1,5 @@
 -- `gen_big` meets its contract.
 use Rattle.expr.proofs.Chain.{big_number}
-use borrow.Author.Rules.{rules}
 use Rattle.expr.proofs.steps.gen_big.Goals as goal
 
 pub returns : goal.returns

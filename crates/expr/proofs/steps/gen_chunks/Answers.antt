@@ -1,7 +1,6 @@
 -- `gen_chunks` meets its contract.
 use Rattle.expr.proofs.Chain.{chunks_low, chunks_high}
 use native.Mathlib.Omega.{arith}
-use borrow.Author.Rules.{rules}
 use Rattle.expr.proofs.steps.gen_chunks.Goals as goal
 
 pub returns-then-high-eq0 : goal.returns-then-high-eq0

@@ -1,7 +1,6 @@
 -- `keep` meets its contract.
 use Rattle.expr.proofs.Values.{more_first, more_second, more_later}
 use mathlib.Core.Path.{refl}
-use borrow.Author.Rules.{rules}
 use Rattle.expr.proofs.steps.keep.Goals as goal
 
 pub returns-then-i-eq0 : goal.returns-then-i-eq0

@@ -3,7 +3,6 @@ use Rattle.expr.specs.Runs.{pops}
 use Rattle.expr.specs.Values.{popped}
 use Rattle.expr.proofs.Loops.{says_run, pops_are}
 use native.Mathlib.Omega.{arith}
-use borrow.Author.Rules.{rules}
 use Rattle.expr.proofs.steps.pop_down.Goals as goal
 
 pub pop_numbers-requires : goal.pop_numbers-requires

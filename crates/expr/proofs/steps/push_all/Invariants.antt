@@ -1,13 +1,8 @@
 -- `push_all` meets its contract.
 use Rattle.emit.specs.Sinks.{sinks}
 use Rattle.expr.specs.Values.{regs_in, argued}
-use Rattle.expr.proofs.Values.{regs_none}
-use Rattle.expr.proofs.Loops.{Saying, says_begin, argue_go, says_end}
-use mathlib.Core.List.{List}
-use native.Mathlib.Omega.{arith}
-use mathlib.Core.Path.{◌≡◌, ap}
-use Prim.Native.Nat.{ℕ, ◌-◌}
-use borrow.Author.Rules.{rules}
+use Rattle.expr.proofs.Loops.{Saying}
+use Prim.Native.Nat.{◌-◌}
 use Rattle.expr.proofs.steps.push_all.Given as goal
 
 abbrev pub invariant-loop-i : goal.invariant-loop-i

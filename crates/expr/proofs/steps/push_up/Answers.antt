@@ -2,7 +2,6 @@
 use Rattle.expr.specs.Runs.{pushes}
 use Rattle.expr.specs.Values.{pushed}
 use Rattle.expr.proofs.Loops.{says_run, pushes_are}
-use borrow.Author.Rules.{rules}
 use Rattle.expr.proofs.steps.push_up.Goals as goal
 
 pub returns : goal.returns

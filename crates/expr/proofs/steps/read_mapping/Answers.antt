@@ -1,6 +1,5 @@
 -- `read_mapping` meets its contract.
 use Rattle.expr.proofs.Chain.{reads_mapping}
-use borrow.Author.Rules.{rules}
 use Rattle.expr.proofs.steps.read_mapping.Goals as goal
 
 pub returns : goal.returns

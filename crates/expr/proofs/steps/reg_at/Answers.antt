@@ -1,6 +1,5 @@
 -- `reg_at` meets its contract.
 use Rattle.expr.proofs.Values.{byte_there, reg_past}
-use borrow.Author.Rules.{rules}
 use Rattle.expr.proofs.steps.reg_at.Goals as goal
 
 pub returns-then-i-count : goal.returns-then-i-count

@@ -1,6 +1,5 @@
 -- `shift_in` meets its contract.
 use Rattle.expr.proofs.Chain.{shifts_none, shifts_some}
-use borrow.Author.Rules.{rules}
 use Rattle.expr.proofs.steps.shift_in.Goals as goal
 
 pub returns-then-chunk-eq0 : goal.returns-then-chunk-eq0

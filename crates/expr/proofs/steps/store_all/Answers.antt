@@ -1,19 +1,17 @@
 -- `store_all` meets its contract.
-use Rattle.emit.specs.Sinks.{sinks}
 use Rattle.expr.specs.Values.{regs_in, stored}
 use Rattle.expr.proofs.Values.{store_none}
-use Rattle.expr.proofs.Loops.{Saying, says_begin, store_go, says_end}
+use Rattle.expr.proofs.Loops.{says_begin, store_go, says_end}
 use native.Mathlib.Omega.{arith}
 use mathlib.Core.Path.{◌≡◌, ap}
 use Prim.Native.Nat.{ℕ, ◌-◌, ◌%◌}
-use borrow.Author.Rules.{rules}
 use Rattle.expr.proofs.steps.store_all.Goals as goal
 
 pub loop-i-init : goal.loop-i-init
 loop-i-init c = says_begin _ _ _ (λ p. let e : c.args.n - 0 ≡ c.args.n = omega arith in ap (λ (m : ℕ). stored (c.args.ptr % 256) 0 (regs_in c.args.vals.now 0 m) p) e)
 
 pub loop-i-preserved : goal.loop-i-preserved
-loop-i-preserved c = store_go _ _ _ _ _ _ _ c.loop-i.invariant c.loop-i-test.true c.at_word-s.ensures (rw c.wide-value.ensures.0 at c.emit-k.ensures) (c.emit-k.auto.0, c.emit-k.auto.1.0)
+loop-i-preserved c = store_go _ _ _ _ _ _ _ c.loop-i.invariant c.loop-i-test.true c.at_word-s.ensures (rw c.wide-value.ensures.0 at c.emit-k.ensures) (c.emit-k.auto.code, c.emit-k.auto.bytes)
 
 pub shape_of-code : goal.shape_of-code
 shape_of-code c = c.loop-i.invariant.room.0

@@ -1,12 +1,8 @@
 -- `store_all` meets its contract.
 use Rattle.emit.specs.Sinks.{sinks}
 use Rattle.expr.specs.Values.{regs_in, stored}
-use Rattle.expr.proofs.Values.{store_none}
-use Rattle.expr.proofs.Loops.{Saying, says_begin, store_go, says_end}
-use native.Mathlib.Omega.{arith}
-use mathlib.Core.Path.{◌≡◌, ap}
-use Prim.Native.Nat.{ℕ, ◌-◌, ◌%◌}
-use borrow.Author.Rules.{rules}
+use Rattle.expr.proofs.Loops.{Saying}
+use Prim.Native.Nat.{◌-◌, ◌%◌}
 use Rattle.expr.proofs.steps.store_all.Given as goal
 
 abbrev pub invariant-loop-i : goal.invariant-loop-i

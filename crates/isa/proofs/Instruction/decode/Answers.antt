@@ -1,5 +1,5 @@
 -- `isa::Instruction::decode` meets its contract: what `of` answers picks the case of `readAs`.
-use Rattle.std.proofs.Common.{◌≡◌, ℕ, ◌%◌, ◌^◌, List, sym, ap, ◌∙◌, rules}
+use Rattle.std.proofs.Common.{◌≡◌, ℕ, ◌%◌, ◌^◌, List, sym, ap, ◌∙◌}
 use Rattle.isa.specs.declared.Opcode.{Opcode}
 use Rattle.isa.specs.declared.Op.TheVariants.{Known}
 use Rattle.isa.specs.declared.Decoded.TheVariants.{Read}

@@ -1,5 +1,5 @@
 -- `isa::Instruction::decode_any` meets its contract: what `decode` answers picks the case of `alone`.
-use Rattle.std.proofs.Common.{sym, ap, ◌∙◌, rules}
+use Rattle.std.proofs.Common.{sym, ap, ◌∙◌}
 use Rattle.isa.specs.Word.{alone}
 use Rattle.isa.specs.Facts.{decode_any_by}
 use Rattle.isa.proofs.Instruction.decode_any.Goals as goal

@@ -1,5 +1,5 @@
 -- `isa::Instruction::encode` meets its contract: the tests that led to each `return` pick the case of `encodeOf`.
-use Rattle.std.proofs.Common.{rules, le-leb}
+use Rattle.std.proofs.Common.{le-leb}
 use borrow.Author.Tests.{lt-leb}
 use Rattle.isa.specs.Word.{encode_of, word_of}
 use Rattle.isa.proofs.Instruction.encode.Goals as goal

@@ -1,5 +1,5 @@
 -- `isa::Instruction::patched` meets its contract: what `decode` answers picks the case of `patchAs`.
-use Rattle.std.proofs.Common.{sym, ap, ◌∙◌, rules}
+use Rattle.std.proofs.Common.{sym, ap, ◌∙◌}
 use Rattle.isa.specs.Word.{patch_as}
 use Rattle.isa.specs.Facts.{patch_by}
 use Rattle.isa.proofs.Instruction.patched.Goals as goal

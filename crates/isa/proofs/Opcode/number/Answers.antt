@@ -1,5 +1,5 @@
 -- `isa::Opcode::number` meets its contract: in each arm the enum is told, and its number computes.
-use Rattle.std.proofs.Common.{sym, ap, rules}
+use Rattle.std.proofs.Common.{sym, ap}
 use Rattle.isa.specs.Word.{number_of}
 use Rattle.isa.proofs.Opcode.number.Goals as goal
 

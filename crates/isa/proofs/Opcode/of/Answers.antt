@@ -1,6 +1,5 @@
 -- `isa::Opcode::of` meets its contract: what the table says of the byte picks the case of `opcodeBy`.
-use Rattle.std.proofs.Common.{◌≡◌, ℕ, Bool, true, false, cond, List, get_or, sym, ap, ◌∙◌, rules}
-use Rattle.isa.specs.declared.Opcode.{Opcode}
+use Rattle.std.proofs.Common.{◌≡◌, ℕ, Bool, true, false, cond, List, get_or, sym, ap, ◌∙◌}
 use Rattle.isa.specs.declared.Opcode.TheVariants.{VerifyMerkle}
 use Rattle.isa.specs.declared.Op.TheVariants.{Known, Unknown}
 use Rattle.isa.specs.declared.Fact.{Fact}

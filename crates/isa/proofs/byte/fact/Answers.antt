@@ -1,5 +1,5 @@
 -- `isa::byte::fact` meets its contract: each part is its bits of the entry.
-use Rattle.std.proofs.Common.{refl, rules}
+use Rattle.std.proofs.Common.{refl}
 use Rattle.isa.specs.Facts.{fact_in}
 use Rattle.isa.proofs.byte.fact.Goals as goal
 

@@ -1,6 +1,5 @@
 -- `front::ambiguity` meets its contract.
 use Rattle.sema.proofs.Fronts.{spot_at, spot_none}
-use borrow.Author.Rules.{rules}
 use Rattle.sema.proofs.front.ambiguity.Goals as goal
 
 pub returns-in-At : goal.returns-in-At

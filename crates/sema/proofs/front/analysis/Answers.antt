@@ -2,7 +2,6 @@
 use mathlib.Core.Path.{◌∙◌, ap, sym}
 use Rattle.rules.specs.Build.{passed}
 use Rattle.sema.proofs.Fronts.{faulted}
-use borrow.Author.Rules.{rules}
 use Rattle.sema.proofs.front.analysis.Goals as goal
 
 pub behind_check-requires : goal.behind_check-requires

@@ -1,6 +1,5 @@
 -- `front::answer_of` meets its contract.
 use Rattle.sema.proofs.Fronts.{image_told, analysis_told, ambiguous_told, fine_told}
-use borrow.Author.Rules.{rules}
 use Rattle.sema.proofs.front.answer_of.Goals as goal
 
 pub returns-in-Image : goal.returns-in-Image

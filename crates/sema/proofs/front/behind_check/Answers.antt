@@ -4,7 +4,6 @@ use native.Mathlib.Omega.{arith}
 use Rattle.lookup.specs.Answers.{checked_of}
 use Rattle.sema.proofs.Fronts.{passed_fine, passed_unfit}
 use Rattle.sema.proofs.Functions.{small}
-use borrow.Author.Rules.{rules}
 use Rattle.sema.proofs.front.behind_check.Goals as goal
 
 pub fill_tables-requires : goal.fill_tables-requires

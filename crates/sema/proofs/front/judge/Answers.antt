@@ -3,7 +3,6 @@ use mathlib.Core.Path.{◌≡◌}
 use Prim.Native.Nat.{ℕ}
 use native.Mathlib.Omega.{arith}
 use Rattle.sema.proofs.Fronts.{kept, looked}
-use borrow.Author.Rules.{rules}
 use Rattle.sema.proofs.front.judge.Goals as goal
 
 pub analysis-j-requires : goal.analysis-j-requires
