@@ -10,19 +10,18 @@ use mathlib.Core.List.{List, [], ◌∷◌, ◌++◌, map}
 use Prim.Native.Nat.{ℕ, zero, suc, ◌+◌, ◌≤◌, ◌<◌}
 use Rattle.std.proofs.Math.ListN.{get_or, get_or-map}
 use Rattle.std.proofs.Math.Seq.{take-length}
-use Rattle.rules.specs.declared.Answer.{Answer}
 use Rattle.rules.specs.Tables.{last}
 use Rattle.rules.specs.Tree.{Function, Contract}
 use Rattle.rules.specs.Read.{function_at, contract_at}
-use Rattle.rules.specs.Refusal.{Refusal, Res, ok, bad, answer, refused}
+use Rattle.rules.specs.Refusal.{Refusal, Res}
 use Rattle.rules.specs.Builtins.{main}
 use Rattle.rules.specs.Machine.{Entry}
 use Rattle.rules.specs.Emit.{Rules}
 use Rattle.rules.specs.Generate.{function}
 use Rattle.rules.specs.Link.{Built, Program, functions, with_main, generate}
-use Rattle.rules.specs.Lent.{over, spread}
-use Rattle.rules.specs.Build.{words_of, three_of}
-use Rattle.bounds.specs.Answers.{All, all_ok, all_bad, all_bind, all_next, from_ok}
+use Rattle.rules.specs.Lent.{spread}
+use Rattle.rules.specs.Build.{three_of}
+use Rattle.bounds.specs.Answers.{All, all_ok, all_bad, all_bind, all_next}
 use Rattle.lent.specs.Over.{spread_append}
 use Rattle.tables.specs.Listed.{functions_in}
 

@@ -5,7 +5,6 @@ use Rattle.rules.specs.declared.Answer.{Answer}
 use Rattle.rules.specs.Build.{rules, packed}
 use Rattle.host.specs.Ends.{Small}
 use Rattle.bench.specs.Small.{small_build}
-use borrow.Author.Rules.{rules}
 use Rattle.bench.proofs.hasp_build.Goals as goal
 
 pub pack-requires : goal.pack-requires

@@ -1,7 +1,6 @@
 -- `bench::hasp_check` meets its contract: a fault has room in one number.
 use mathlib.Core.Path.{◌∙◌, sym}
 use Rattle.bench.specs.Small.{sound, faulty, small_check}
-use borrow.Author.Rules.{rules}
 use Rattle.bench.proofs.hasp_check.Goals as goal
 
 pub pack-requires : goal.pack-requires

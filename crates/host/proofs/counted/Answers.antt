@@ -3,7 +3,6 @@ use mathlib.Core.Path.{refl, ap}
 use native.Mathlib.Numerals.{add-one}
 use Rattle.rules.specs.Bytes.{pick}
 use Rattle.rules.specs.Refusal.{answer}
-use borrow.Author.Rules.{rules}
 use Rattle.host.proofs.counted.Goals as goal
 
 pub returns-then-w : goal.returns-then-w

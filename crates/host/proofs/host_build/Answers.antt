@@ -5,7 +5,6 @@ use Rattle.rules.specs.declared.Answer.{Answer}
 use Rattle.rules.specs.Build.{rules, packed, host_of}
 use Rattle.host.specs.Ends.{Small, small, hosted_as, clears}
 use native.Mathlib.Omega.{arith}
-use borrow.Author.Rules.{rules}
 use Rattle.host.proofs.host_build.Goals as goal
 
 pub pack-requires : goal.pack-requires
@@ -14,7 +13,7 @@ pack-requires c = let h = hosted_as (rw c.target.ensures.0 at c.program-made.ens
 
 pub returns-then-refusal-ne0 : goal.returns-then-refusal-ne0
 unfolding host_of
-returns-then-refusal-ne0 c = let h = hosted_as (rw c.target.ensures.0 at c.program-made.ensures) c.program-made.kept.1.0 (rw c.program-made.kept.1.0 at c.fit-a.ensures) in (c.pack.ensures ∙ ap packed h.answer, c.clear_bytes.ensures ∙ clears rules c.args.image.now c.args.out.now _ _ h c.if-refusal-ne0.taken)
+returns-then-refusal-ne0 c = let h = hosted_as (rw c.target.ensures.0 at c.program-made.ensures) c.program-made.kept.1.0 (rw c.program-made.kept.1.0 at c.fit-a.ensures) in (c.pack.ensures ∙ ap packed h.answer, c.clear_bytes.ensures ∙ clears rules c.args.image.now c.args.out.now _ _ h c.if-refusal-ne0.true)
 
 pub pack-requires-2 : goal.pack-requires-2
 unfolding rules
@@ -22,4 +21,4 @@ pack-requires-2 c = let h = hosted_as (rw c.target.ensures.0 at c.program-made.e
 
 pub returns : goal.returns
 unfolding host_of
-returns c = let h = hosted_as (rw c.target.ensures.0 at c.program-made.ensures) c.program-made.kept.1.0 (rw c.program-made.kept.1.0 at c.fit-a.ensures) in (c.pack-2.ensures ∙ ap packed h.answer, h.bytes c.if-refusal-ne0.left)
+returns c = let h = hosted_as (rw c.target.ensures.0 at c.program-made.ensures) c.program-made.kept.1.0 (rw c.program-made.kept.1.0 at c.fit-a.ensures) in (c.pack-2.ensures ∙ ap packed h.answer, h.bytes c.if-refusal-ne0.false)

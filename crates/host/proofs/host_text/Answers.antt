@@ -3,7 +3,6 @@ use mathlib.Core.Path.{sym, ap, subst, ◌∙◌}
 use Rattle.rules.specs.declared.Answer.{Answer}
 use Rattle.rules.specs.Build.{packed}
 use Rattle.host.specs.Ends.{Small, small_text}
-use borrow.Author.Rules.{rules}
 use Rattle.host.proofs.host_text.Goals as goal
 
 pub pack-requires : goal.pack-requires

@@ -9,7 +9,6 @@ use Rattle.rules.specs.Build.{packed}
 use Rattle.rules.specs.Why.{packed_why}
 use Rattle.why.specs.Small.{why_small}
 use Rattle.host.specs.Ends.{Small, small_why}
-use borrow.Author.Rules.{rules}
 use Rattle.host.proofs.host_why.Goals as goal
 
 pub counted-requires : goal.counted-requires

@@ -2,7 +2,6 @@
 use mathlib.Core.Path.{refl}
 use native.Mathlib.Omega.{arith}
 use Rattle.rules.specs.Build.{packed}
-use borrow.Author.Rules.{rules}
 use Rattle.host.proofs.pack.Goals as goal
 
 -- src/lib.rt:309:1

@@ -1,11 +1,10 @@
 -- `listing::words` ends, and stays in bounds.
 use Prim.Native.Nat.{◌-◌, ◌≤◌}
 use lib.ListN.{length}
-use borrow.Author.Rules.{rules}
 use Rattle.listing.proofs.words.Given as goal
 
 abbrev pub invariant-loop-i : goal.invariant-loop-i
-invariant-loop-i l = l.i ≤ length l.code
+invariant-loop-i g l = l.i ≤ length l.code
 
 abbrev pub decreases-loop-i : goal.decreases-loop-i
-decreases-loop-i l = length l.code - l.i
+decreases-loop-i g l = length l.code - l.i

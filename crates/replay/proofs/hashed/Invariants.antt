@@ -1,7 +1,6 @@
 -- `replay::hashed` ends, and stays in bounds.
 use Prim.Native.Nat.{◌-◌, ◌≤◌}
 use lib.ListN.{length}
-use borrow.Author.Rules.{rules}
 use Rattle.replay.proofs.hashed.Given as goal
 
 abbrev pub invariant-loop-i : goal.invariant-loop-i

@@ -1,6 +1,5 @@
 -- `replay::hashed_entries` ends, and stays in bounds.
 use Prim.Native.Nat.{◌-◌, ◌≤◌}
-use borrow.Author.Rules.{rules}
 use Rattle.replay.proofs.hashed_entries.Given as goal
 
 abbrev pub invariant-loop-i : goal.invariant-loop-i

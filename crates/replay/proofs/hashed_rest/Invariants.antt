@@ -1,6 +1,5 @@
 -- `replay::hashed_rest` ends.
 use Prim.Native.Nat.{◌-◌, ◌≤◌}
-use borrow.Author.Rules.{rules}
 use Rattle.replay.proofs.hashed_rest.Given as goal
 
 abbrev pub invariant-loop-i : goal.invariant-loop-i

@@ -1,6 +1,5 @@
 -- `replay::hashed_word` ends, and stays in bounds.
 use Prim.Native.Nat.{◌-◌, ◌≤◌}
-use borrow.Author.Rules.{rules}
 use Rattle.replay.proofs.hashed_word.Given as goal
 
 abbrev pub invariant-loop-i : goal.invariant-loop-i

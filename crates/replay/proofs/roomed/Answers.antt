@@ -1,7 +1,6 @@
 -- `replay::roomed`: the parts that it lends are there.
 use mathlib.Core.Path.{sym}
 use lib.Seq.{length-take-le}
-use borrow.Author.Rules.{rules}
 use Rattle.replay.proofs.roomed.Goals as goal
 
 pub slice_bounds-built-end-2 : goal.slice_bounds-built-end-2

@@ -1,7 +1,6 @@
 -- `replay::spelled` ends, and stays in bounds.
 use Prim.Native.Nat.{◌-◌, ◌≤◌}
 use lib.ListN.{length}
-use borrow.Author.Rules.{rules}
 use Rattle.replay.proofs.spelled.Given as goal
 
 abbrev pub invariant-loop-i : goal.invariant-loop-i

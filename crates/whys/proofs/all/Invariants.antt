@@ -1,10 +1,9 @@
 -- `whys::all` ends.
 use Prim.Native.Nat.{◌-◌, ◌≤◌}
-use borrow.Author.Rules.{rules}
 use Rattle.whys.proofs.all.Given as goal
 
 abbrev pub invariant-loop-i : goal.invariant-loop-i
-invariant-loop-i l = l.i ≤ 8192
+invariant-loop-i g l = l.i ≤ 8192
 
 abbrev pub decreases-loop-i : goal.decreases-loop-i
-decreases-loop-i l = 8192 - l.i
+decreases-loop-i g l = 8192 - l.i

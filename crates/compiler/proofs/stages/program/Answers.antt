@@ -3,7 +3,6 @@ use mathlib.Core.Path.{ap, ◌∙◌}
 use Rattle.rules.specs.Build.{analysis_answer}
 use Rattle.notes.specs.Wrote.{blank}
 use Rattle.compiler.proofs.Making.{front_ready, unfit_makes, fit_makes}
-use borrow.Author.Rules.{rules}
 use Rattle.compiler.proofs.stages.program.Goals as goal
 
 pub judge-requires : goal.judge-requires

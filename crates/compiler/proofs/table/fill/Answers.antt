@@ -1,8 +1,7 @@
 -- `compiler::table::fill` meets its contract: after k turns the rows of the first k functions are laid over the table.
-use lib.ListN.{length-set}
 use mathlib.Core.Path.{◌≡◌, refl, sym, ap, ◌∙◌}
 use mathlib.Core.List.{List, [], ◌∷◌}
-use Prim.Native.Nat.{ℕ, suc, ◌+◌, ◌-◌, ◌*◌, ◌≤◌}
+use Prim.Native.Nat.{ℕ, ◌+◌, ◌*◌}
 use native.Mathlib.Numerals.{add-one}
 use native.Mathlib.Omega.{arith}
 use lib.ListN.{length, get_or}
@@ -12,7 +11,6 @@ use Rattle.lent.specs.Over.{over_at, length_over, spread_more}
 use Rattle.tables.specs.Listed.{functions_in}
 use Rattle.tables.specs.Carried.{few}
 use Rattle.compiler.specs.Made.{three, below, length_below}
-use borrow.Author.Rules.{rules}
 use Rattle.compiler.proofs.table.fill.Goals as goal
 
 long : (img F t₀ t : List ℕ) (k : ℕ) → t ≡ over (spread (three img F) (below k)) t₀ → length t ≡ length t₀

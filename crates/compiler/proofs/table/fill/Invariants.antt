@@ -1,18 +1,8 @@
 -- `compiler::table::fill` meets its contract: after k turns the rows of the first k functions are laid over the table.
-use lib.ListN.{length-set}
-use mathlib.Core.Path.{◌≡◌, refl, sym, ap, ◌∙◌}
-use mathlib.Core.List.{List, [], ◌∷◌}
-use Prim.Native.Nat.{ℕ, suc, ◌+◌, ◌-◌, ◌*◌, ◌≤◌}
-use native.Mathlib.Numerals.{add-one}
-use native.Mathlib.Omega.{arith}
-use lib.ListN.{length, get_or}
+use mathlib.Core.Path.{◌≡◌}
+use Prim.Native.Nat.{◌-◌, ◌≤◌}
 use Rattle.rules.specs.Lent.{over, spread}
-use Rattle.rules.specs.Read.{function_at, fourth}
-use Rattle.lent.specs.Over.{over_at, length_over, spread_more}
-use Rattle.tables.specs.Listed.{functions_in}
-use Rattle.tables.specs.Carried.{few}
-use Rattle.compiler.specs.Made.{three, below, length_below}
-use borrow.Author.Rules.{rules}
+use Rattle.compiler.specs.Made.{three, below}
 use Rattle.compiler.proofs.table.fill.Given as goal
 
 abbrev pub invariant-loop-k : goal.invariant-loop-k

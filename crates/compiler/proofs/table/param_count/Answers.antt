@@ -1,9 +1,8 @@
 -- `compiler::table::param_count`: the records that are counted are the Fields that are read.
-use mathlib.Core.Path.{◌≡◌, sym, ◌∙◌}
-use lib.ListN.{length, length-map}
+use mathlib.Core.Path.{sym, ◌∙◌}
+use lib.ListN.{length-map}
 use Rattle.rules.specs.Bytes.{inside, after}
 use Rattle.rules.specs.Read.{places_from, second, field_at, fields_at, function_at}
-use borrow.Author.Rules.{rules}
 use Rattle.compiler.proofs.table.param_count.Goals as goal
 
 -- src/table.rt:13:1

@@ -5,7 +5,6 @@ use Prim.Native.Nat.{ℕ, ◌+◌, ◌*◌}
 use native.Mathlib.Omega.{arith}
 use lib.ListN.{set, length-set}
 use Rattle.lent.specs.Over.{over_at, over_at_first, over_at_next, over_at_nil}
-use borrow.Author.Rules.{rules}
 use Rattle.compiler.proofs.table.write.Goals as goal
 
 stores : (k : ℕ) (a b c : ℕ) (s : List ℕ) → set (set (set s k a) (k + 1) b) (k + 2) c ≡ over_at k (a ∷ b ∷ c ∷ []) s
