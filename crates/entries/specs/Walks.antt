@@ -13,7 +13,7 @@ use Rattle.heights.specs.Slices.{past_in, entries_in}
 use Rattle.compiler.specs.Ends.{Built}
 use Rattle.compiler.specs.Walks as flat
 use Rattle.entries.specs.declared.Entry.{Entry}
-use Rattle.entries.specs.Entries.{numbers, numbers_of}
+use Rattle.entries.specs.Entries.{numbers_of}
 use Rattle.entries.specs.Whole.{rest_lent}
 
 -- where a function's words end, with these entries behind it

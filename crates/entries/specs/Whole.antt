@@ -12,7 +12,7 @@ use Rattle.lent.specs.Rest.{Rest, all_zero}
 use Rattle.compiler.specs.Ends.{Built}
 use Rattle.compiler.specs.Whole as flat
 use Rattle.entries.specs.declared.Entry.{Entry}
-use Rattle.entries.specs.Entries.{blank, numbers, numbers_of, numbers_one, numbers_length, numbers_blank}
+use Rattle.entries.specs.Entries.{blank, numbers_of, numbers_one, numbers_length, numbers_blank}
 
 -- without its first k entries a table is without its first 3 k numbers
 numbers_drop : (k : ℕ) (es : List Entry) → numbers_of (drop k es) ≡ drop (3 * k) (numbers_of es)

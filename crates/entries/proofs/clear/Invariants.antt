@@ -1,5 +1,5 @@
 -- `entries::clear`: after i turns the first i entries are blank, and the others as they were lent.
-use Rattle.std.proofs.Common.{◌-◌, ◌≡◌, ◌≤◌, length, replicate}
+use Rattle.std.proofs.Common.{◌-◌, ◌≡◌, ◌≤◌, replicate}
 use Rattle.rules.specs.Lent.{over}
 use Rattle.entries.specs.Entries.{blank}
 use Rattle.entries.proofs.clear.Given as goal

@@ -7,7 +7,6 @@ use Rattle.rules.specs.Read.{function_at}
 use Rattle.tables.specs.Listed.{functions_in}
 use Rattle.entries.specs.declared.Entry.{Entry}
 use Rattle.entries.specs.Rows.{entry_of}
-use borrow.Author.Rules.{rules}
 use Rattle.entries.proofs.entry_no.Goals as goal
 
 is-entry : (img F : List ℕ) (k place first params : ℕ) → place ≡ get_or (functions_in img) k 0 → first ≡ get_or F k 0 → params ≡ length (function_at img place).params

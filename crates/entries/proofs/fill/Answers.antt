@@ -11,6 +11,6 @@ pub loop-k-preserved : goal.loop-k-preserved
 loop-k-preserved c = (
   omega arith,
   ap (λ t. set t c.loop-k.k c.entry_no.result) c.loop-k.invariant.1
-    ∙ ap (λ e. set (over (entries_of c.args.img.now c.args.firsts.now c.loop-k.k) c.args.table.now) c.loop-k.k e) c.entry_no.ensures
-    ∙ rows_more c.args.img.now c.args.firsts.now c.loop-k.k c.args.table.now,
+      ∙ ap (λ e. set (over (entries_of c.args.img.now c.args.firsts.now c.loop-k.k) c.args.table.now) c.loop-k.k e) c.entry_no.ensures
+      ∙ rows_more c.args.img.now c.args.firsts.now c.loop-k.k c.args.table.now,
 )

@@ -1,5 +1,5 @@
 -- `entries::fill`: after k turns the table is the entries of the first k functions over what was lent.
-use Rattle.std.proofs.Common.{◌-◌, ◌≡◌, ◌≤◌, length}
+use Rattle.std.proofs.Common.{◌-◌, ◌≡◌, ◌≤◌}
 use Rattle.rules.specs.Lent.{over}
 use Rattle.entries.specs.Rows.{entries_of}
 use Rattle.entries.proofs.fill.Given as goal

@@ -10,8 +10,8 @@ use Rattle.entries.proofs.build.build_entries.Goals.{then-m-eq0, else-m-eq0}
 pub fill-requires : goal.fill-requires
 fill-requires c =
     let fit =
-        accepted made.rules c.args.image.now c.args.code.now c.args.table.now c.work-m.result.answer c.work-m.new.code c.work-m.result.firsts c.work-m.result.tables c.work-m.ensures.0
-        (search rules) c.work-m.result.n c.work-m.ensures.1 in
+    accepted made.rules c.args.image.now c.args.code.now c.args.table.now c.work-m.result.answer c.work-m.new.code c.work-m.result.firsts c.work-m.result.tables c.work-m.ensures.0
+    (search rules) c.work-m.result.n c.work-m.ensures.1 in
     (fit.tabled, (omega (arith, fit.functions), (omega (arith, fit.functions, few 256 c.args.image.now (fourth c.args.image.now 0)), fit.room)))
 
 pub returns : goal.returns
@@ -19,6 +19,6 @@ returns c =
     let fits = accepted made.rules c.args.image.now c.args.code.now c.args.table.now c.work-m.result.answer c.work-m.new.code c.work-m.result.firsts c.work-m.result.tables c.work-m.ensures.0 in
     let ends = refused_one made.rules c.args.image.now c.args.code.now c.args.table.now c.work-m.result.answer c.work-m.new.code c.work-m.result.firsts c.work-m.result.tables c.work-m.ensures.0 in
     elim c.if-m-eq0.branch [
-      then-m-eq0 w ↦ rw (w.table-is, w.fill.ensures) (fits (search rules) c.work-m.result.n c.work-m.ensures.1).built
-    | else-m-eq0 w ↦ rw (w.table-is, w.clear.ensures) (ends (search rules))
+      | then-m-eq0 w ↦ rw (w.table-is, w.fill.ensures) (fits (search rules) c.work-m.result.n c.work-m.ensures.1).built
+      | else-m-eq0 w ↦ rw (w.table-is, w.clear.ensures) (ends (search rules))
     ]
