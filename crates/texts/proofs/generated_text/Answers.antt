@@ -1,6 +1,5 @@
 -- `texts::generated_text` meets its contract: what generation refuses is told by its number and its place.
 use Rattle.texts.specs.Laws.{generated_fine, generated_told, told_room, tells_told}
-use borrow.Author.Rules.{rules}
 use Rattle.texts.proofs.generated_text.Goals as goal
 
 pub generated-a-requires : goal.generated-a-requires

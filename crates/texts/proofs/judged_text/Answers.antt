@@ -1,6 +1,5 @@
 -- `texts::judged_text` meets its contract: analysis alone has a text.
 use Rattle.texts.specs.Laws.{tells_image, tells_ambiguous, tells_fine, tells_fault, fault_room}
-use borrow.Author.Rules.{rules}
 use Rattle.texts.proofs.judged_text.Goals as goal
 
 pub fault-requires : goal.fault-requires

@@ -3,7 +3,6 @@ use mathlib.Core.Path.{refl}
 use native.Mathlib.Omega.{arith}
 use Rattle.notes.specs.Wrote.{blank}
 use Rattle.texts.specs.Laws.{generate_room, judged_room, told_generated, told_image, told_fault, told_ambiguous, short_answer, whole_answer}
-use borrow.Author.Rules.{rules}
 use Rattle.texts.proofs.text.Goals as goal
 
 pub returns-then-out-lt256 : goal.returns-then-out-lt256
