@@ -15,10 +15,10 @@ use Rattle.rules.specs.Bytes.{pick}
 use Rattle.rules.specs.Tables.{nth}
 use Rattle.rules.specs.Refusal.{Res, ok, bad}
 use Rattle.rules.specs.Emit.{Open}
-use Rattle.emit.specs.Steps.{Out, after, ◌>>=◌, done, say, ask}
+use Rattle.emit.specs.Steps.{Out, ◌>>=◌, done, say, ask}
 use Rattle.emit.specs.Laws.{after_none}
 use Rattle.emit.specs.Ran.{Tally}
-use Rattle.seek.specs.Goes.{Goes, IsOk, words_of, Split, split}
+use Rattle.seek.specs.Goes.{Goes, IsOk, words_of, split}
 
 pub nth_first : {A : Type 0} (xs ys : List A) (i : ℕ) → i < length xs → nth i (xs ++ ys) ≡ nth i xs
 unfolding nth

@@ -6,13 +6,13 @@
 --     goes_word, goes_words      slots that are kept: of one word, of several
 --     goes_behind       a block behind the word that jumps over it
 -- Assumes nothing.
-use Rattle.std.specs.Prelude.{◌≡◌, refl, List, [], ◌∷◌, ◌++◌, ℕ, suc, ◌+◌, ◌≤◌, ◌<◌, length}
+use Rattle.std.specs.Prelude.{◌≡◌, refl, List, [], ◌∷◌, ◌++◌, ℕ, ◌+◌, ◌<◌, length}
 use Rattle.std.proofs.Common.{sym, ap, ◌∙◌, subst, arith, length-append}
 use Rattle.rules.specs.Refusal.{Res, ok, bad}
 use Rattle.rules.specs.Emit.{Open}
 use Rattle.emit.specs.Steps.{Out, after, ◌>>=◌, done, say, behind}
 use Rattle.emit.specs.Sinks.{Sinks}
-use Rattle.emit.specs.Ran.{Tally, Reserved, Sums, Good, Case, Ran}
+use Rattle.emit.specs.Ran.{Tally, Reserved, Sums, Case, Ran}
 use Rattle.emit.specs.Agrees.{is_good}
 
 pub record Goes {A : Type 0} (s r : Tally) (v : A) (m : Res (Out A)) : Type 0 where

@@ -2,7 +2,7 @@
 --     Rest              whatever is found in the rest of a list is found in all of it; Args, Inits: args_go, args_in, args_past, args_whole, ..
 --     Down              whatever is found in the part is found in the whole: down_go, down_own, down_end
 -- Assumes nothing.
-use Rattle.std.specs.Prelude.{◌≡◌, refl, Bool, true, false, List, [], ◌∷◌, ℕ, zero, suc, ◌+◌, ◌-◌, ◌≤◌, ◌<◌}
+use Rattle.std.specs.Prelude.{◌≡◌, refl, Bool, true, false, List, ◌∷◌, ℕ, suc, ◌+◌, ◌-◌, ◌≤◌, ◌<◌}
 use Rattle.std.proofs.Common.{sym, ap, ◌∙◌, subst, arith}
 use Rattle.rules.specs.Bytes.{after}
 use Rattle.rules.specs.Read.{exprs_from, inits_from, expr_at, second, contract_at}

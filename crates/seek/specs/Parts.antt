@@ -10,7 +10,7 @@ use Rattle.std.proofs.Common.{◌∙◌, arith}
 use Rattle.std.proofs.Math.Bool.{true, false}
 use Rattle.std.proofs.Math.Option.{Option, none, some}
 use mathlib.Core.List.{List, [], ◌∷◌, ◌++◌, map, reverse}
-use Prim.Native.Nat.{ℕ, zero, suc, ◌+◌, ◌-◌, ◌*◌, ◌%◌, ◌≤◌, ◌<◌}
+use Prim.Native.Nat.{ℕ, zero, suc, ◌+◌, ◌-◌, ◌%◌, ◌≤◌, ◌<◌}
 use Rattle.std.proofs.Math.ListN.{length, length-append}
 use Rattle.std.proofs.lemmas.List.{length-map, length-reverse}
 use borrow.Author.Tests.{ne_eqb, eqb-true, eqb-false}
@@ -24,7 +24,7 @@ use Rattle.rules.specs.Emit.{Open, calls, Scope, add, push, pop, count, shift_in
 use Rattle.rules.specs.Generate.{alloc_reg_lem}
 use Rattle.emit.specs.declared.St.{St}
 use Rattle.emit.specs.declared.Rules.{Rules}
-use Rattle.emit.specs.Steps.{Out, after as then, ◌>>=◌, done, say, ask, at, Regs, gen, gens, gen_inits, gen_call, gen_number}
+use Rattle.emit.specs.Steps.{Out, after as then, ◌>>=◌, done, say, ask, at, Regs, gen, gens, gen_call, gen_number}
 use Rattle.emit.specs.Laws.{after_none}
 use Rattle.emit.specs.Sinks.{sinks}
 use Rattle.emit.specs.Ran.{raw, Tally}

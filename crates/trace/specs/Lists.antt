@@ -6,17 +6,15 @@
 --     alone_ready, alone_counted         a statement by itself is a List of one
 --     kind_in, kind_own, kind_ready      by its number
 -- Assumes nothing.
-use Rattle.std.specs.Prelude.{◌≡◌, Bool, true, false, List, [], ◌∷◌, ◌++◌, ℕ, zero, suc, ◌+◌, ◌-◌, ◌%◌, ◌≤◌, ◌<◌, ltb, get_or, set}
+use Rattle.std.specs.Prelude.{◌≡◌, Bool, true, false, List, [], ◌++◌, ℕ, zero, suc, ◌+◌, ◌-◌, ◌≤◌, ◌<◌, ltb, get_or, set}
 use Rattle.std.proofs.Math.Path.{refl, sym, subst}
 use Rattle.std.proofs.Common.{ap, ◌∙◌, arith, length-append}
 use Rattle.std.proofs.Math.ListN.{length}
-use Rattle.isa.specs.declared.Opcode.TheVariants as op
 use Rattle.rules.specs.Bytes.{inside, after, kind_at}
-use Rattle.rules.specs.Machine.{Imm}
 use Rattle.rules.specs.Tree.{Stmt, Stmts, Contract}
 use Rattle.rules.specs.Read.{when, expr_at, exprs_from, StmtKind, sEmit, sOther, stmt_kind_of, stmts_from, stmt_as, stmt_at_lem, body_at, second, contract_at}
-use Rattle.rules.specs.Refusal.{Res, ok}
-use Rattle.rules.specs.Emit.{Rules as Target, Open, Scope, emit}
+use Rattle.rules.specs.Refusal.{Res}
+use Rattle.rules.specs.Emit.{Rules as Target, Open, Scope}
 use Rattle.bounds.specs.Sizes.{vars, vars-stmts}
 use Rattle.emit.specs.declared.St.{St}
 use Rattle.emit.specs.declared.Rules.{Rules}

@@ -7,7 +7,7 @@
 --     Reaches      a step from a List to its statement; Falls: to the statement's part
 -- Assumes nothing.
 use Rattle.std.specs.Prelude.{◌≡◌, true, false, List, ℕ, suc, ◌+◌, ◌-◌, ◌≤◌, ◌<◌, leb}
-use Rattle.rules.specs.Read.{expr_at, StmtKind, stmt_at_lem, body_at, else_at, contract_at}
+use Rattle.rules.specs.Read.{expr_at, StmtKind, stmt_at_lem, body_at, contract_at}
 use Rattle.bounds.specs.Sizes.{vars, vars-stmts}
 use Rattle.emit.specs.declared.St.{St}
 use Rattle.emit.specs.declared.Rules.{Rules}

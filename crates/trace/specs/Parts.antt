@@ -7,29 +7,27 @@ use Rattle.std.specs.Prelude.{◌≡◌, Bool, leb, ltb, get_or, set}
 use Rattle.std.proofs.Math.Path.{refl, sym, ap, subst}
 use Rattle.std.proofs.Common.{◌∙◌, arith, leb-true, leb-false, length-set, get_or-set_same}
 use Rattle.std.proofs.Math.Bool.{true, false}
-use Rattle.std.proofs.Math.Option.{some}
 use mathlib.Core.List.{List, [], ◌∷◌, ◌++◌}
 use Prim.Native.Nat.{ℕ, suc, ◌+◌, ◌-◌, ◌%◌, ◌≤◌, ◌<◌}
 use Rattle.std.proofs.Math.ListN.{length}
 use Rattle.isa.specs.declared.Opcode.TheVariants as op
-use Rattle.rules.specs.Bytes.{pick, name_at, inside, after}
+use Rattle.rules.specs.Bytes.{name_at, inside, after}
 use Rattle.rules.specs.Tables.{nth}
 use Rattle.rules.specs.Machine.{Imm}
-use Rattle.rules.specs.Tree.{Expr, Stmt, Stmts}
-use Rattle.rules.specs.Read.{when, expr_at, StmtKind, sLet, sConstrain, sAssign, sStorage, sMapping, sIf, sWhile, sFor, sReturn, sExpr, stmt_as, stmt_at_lem, body_at, else_at, second, third, fourth, contract_at}
+use Rattle.rules.specs.Tree.{Stmt}
+use Rattle.rules.specs.Read.{when, expr_at, sLet, sConstrain, sAssign, sStorage, sMapping, sIf, sWhile, sFor, sReturn, sExpr, stmt_as, stmt_at_lem, body_at, else_at, second, third, fourth, contract_at}
 use Rattle.rules.specs.Refusal.{Res}
-use Rattle.rules.specs.Emit.{Open, Scope, with_name, emit, jump, load, add, pop, AtReg}
+use Rattle.rules.specs.Emit.{Open, with_name, emit, jump, load, add, pop, AtReg}
 use Rattle.rules.specs.Why.{landing}
 use Rattle.bounds.specs.Sizes.{vars, vars-stmts}
 use Rattle.emit.specs.declared.St.{St}
 use Rattle.emit.specs.declared.Rules.{Rules}
 use Rattle.emit.specs.Steps as emitting
 use Rattle.emit.specs.Steps.{Out, ◌>>=◌, done, say, ask, at, Here, looping, gen_stmt_lem, gen_stmts_lem}
-use Rattle.emit.specs.Ran.{Tally}
 use Rattle.emit.specs.State.{rules_of, tally, fresh, Takes, Keeps}
 use Rattle.rules.specs.Generate.{alloc_reg_lem}
 use Rattle.expr.specs.Scope.{scope_in}
-use Rattle.stmt.specs.Frame.{Ready, Frame, Binds}
+use Rattle.stmt.specs.Frame.{Ready, Binds}
 use Rattle.stmt.specs.Runs.{here, taken, Opens}
 use Rattle.stmt.proofs.Names.{put_back, fewer, behind, behind_one}
 use Rattle.stmt.proofs.Trees.{else_some, else_none, value_some, value_none}
@@ -40,7 +38,7 @@ use Rattle.seek.specs.Found.{some_same, Found, found_first, found_later, found_a
 use Rattle.seek.specs.Spots as spots
 use Rattle.seek.specs.Spots.{plain, ahead, spot_of, told, owned, leaping, into, spot_in_lem, steps, Counts, Finds, Ans, Row}
 use Rattle.seek.specs.Parts.{is_found, deep, into_first, row_own, takes_fresh, fresh_own, fresh_past}
-use Rattle.trace.specs.Moves.{entering, CountedAll, CountedElse, other, none, Blocks, Ends, owns, value, block, Loops, jnz, jmp, back, body, Moves}
+use Rattle.trace.specs.Moves.{entering, CountedElse, other, none, Blocks, Ends, owns, value, block, Loops, jnz, jmp, back, body, Moves}
 use Rattle.trace.specs.Turns.{found_last, behind_is, behind_own, behind_in, loop_cond, loop_jnz, loop_jmp, loop_back, loop_in}
 
 -- A step that is known to stay, or to leap.

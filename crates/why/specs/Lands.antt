@@ -5,7 +5,7 @@
 -- Assumes nothing.
 use Rattle.std.specs.Prelude.{◌≡◌, refl, Bool, true, false, ℕ, zero, suc, ◌+◌, ◌-◌, ◌≤◌, leb}
 use Rattle.std.proofs.Math.Option.{Option, none, some, none-ne-some}
-use mathlib.Core.List.{List, [], ◌∷◌, ◌++◌}
+use mathlib.Core.List.{List, [], ◌∷◌, ◌++◌, reverse}
 use Rattle.std.proofs.Common.{arith, leb-true, leb-false}
 use Rattle.std.proofs.Math.ListN.{length}
 use Rattle.rules.specs.declared.Seen.TheVariants.{Sound}
@@ -17,7 +17,7 @@ use Rattle.rules.specs.Tree.{Expr, Exprs, Inits, Stmt, Stmts, Function, Contract
 use Rattle.rules.specs.Refusal.{Res, ok, ◌>>=◌}
 use Rattle.rules.specs.Builtins.{Builtin, main}
 use Rattle.rules.specs.Machine.{Imm, Word, Entry, Lands}
-use Rattle.rules.specs.Emit.{Rules, Open, word, calls, Scope, shift_in, parts, branches, loops, Value, AtReg, Values, Done, stores}
+use Rattle.rules.specs.Emit.{Rules, Open, word, calls, Scope, shift_in, parts, branches, loops, Value, AtReg, Values, Done, stores, push, pop, count}
 use Rattle.rules.specs.Generate.{apply, number, expr, exprs, inits, logs, stmt, stmts, function}
 use Rattle.rules.specs.Link.{Built, functions, less, distance, patch, link, opening, with_main}
 use Rattle.rules.specs.Why.{mark_of, landing, target_of, marked}
@@ -120,7 +120,10 @@ module _ (img : List ℕ) where
     apply_good p f n m (some Builtin.nonce) k h = search steps depth 16
     apply_good p f n m (some Builtin.block-number) k h = search steps depth 16
     apply_good p f n m (some Builtin.merkle) k h = search steps depth 16
-    apply_good p f n m none k h = search steps depth 16
+    apply_good p f n m none k h = then_values m _ h (λ a g. then_reg _ _ (λ d. all_ok _
+        (joined _ _ (each_map _ (push p) (count 1 (n - 1)) (λ x. (k, tt)))
+        (joined a.code _ g (joined _ _ (each_map _ (λ (v : AtReg). push p v.reg) a.regs (λ x. (k, tt)))
+        ((k, tt), ((k, tt), each_map _ (pop p) (reverse (count 1 (n - 1))) (λ x. (k, tt)))))))))
 
     mutual
       unfolding expr exprs inits Whole WholeExprs WholeInits mark_of

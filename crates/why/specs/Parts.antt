@@ -14,7 +14,7 @@ use Rattle.rules.specs.Bytes.{pick, Name, eq_name}
 use Rattle.rules.specs.Tables.{or_else, last, last_index, mapped, nth}
 use Rattle.rules.specs.Tree.{Function, Contract}
 use Rattle.rules.specs.Read.{function_at}
-use Rattle.rules.specs.Refusal.{Refusal, Res, ok, bad, ◌>>=◌}
+use Rattle.rules.specs.Refusal.{Res, ok, bad, ◌>>=◌}
 use Rattle.rules.specs.Builtins.{main}
 use Rattle.rules.specs.Machine.{Entry}
 use Rattle.rules.specs.Emit.{Rules, Open}

@@ -1,5 +1,4 @@
 -- `count_expr` meets its contract.
-use borrow.Author.Rules.{rules}
 use Rattle.emit.specs.Ran.{raw}
 use Rattle.seek.specs.Goes.{ran_goes}
 use Rattle.seek.proofs.count_expr.Goals as goal

@@ -1,9 +1,6 @@
 -- `find_expr` meets its contract.
-use mathlib.Core.Path.{◌≡◌, refl}
-use borrow.Author.Rules.{rules}
-use Rattle.emit.specs.declared.St.{St}
-use Rattle.seek.specs.Spots.{into}
-use Rattle.seek.specs.Lists.{Down, down_begin, down_go, down_own, down_end}
+use mathlib.Core.Path.{refl}
+use Rattle.seek.specs.Lists.{down_begin, down_go, down_own, down_end}
 use Rattle.seek.proofs.find_expr.Goals as goal
 
 pub loop-d-init : goal.loop-d-init

@@ -1,9 +1,8 @@
 -- `find_expr` meets its contract.
-use mathlib.Core.Path.{◌≡◌, refl}
-use borrow.Author.Rules.{rules}
+use mathlib.Core.Path.{◌≡◌}
 use Rattle.emit.specs.declared.St.{St}
 use Rattle.seek.specs.Spots.{into}
-use Rattle.seek.specs.Lists.{Down, down_begin, down_go, down_own, down_end}
+use Rattle.seek.specs.Lists.{Down}
 use Rattle.seek.proofs.find_expr.Given as goal
 
 abbrev pub invariant-loop-d : goal.invariant-loop-d

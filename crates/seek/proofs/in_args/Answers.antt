@@ -1,8 +1,6 @@
 -- `in_args` meets its contract.
-use Prim.Native.Nat.{◌-◌, ◌≤◌}
 use native.Mathlib.Omega.{arith}
-use borrow.Author.Rules.{rules}
-use Rattle.seek.specs.Lists.{Args, rest_begin, args_go, args_in, args_past, args_whole}
+use Rattle.seek.specs.Lists.{rest_begin, args_go, args_in, args_past, args_whole}
 use Rattle.seek.proofs.in_args.Goals as goal
 
 pub loop-i-init : goal.loop-i-init

@@ -1,8 +1,6 @@
 -- `in_args` meets its contract.
 use Prim.Native.Nat.{◌-◌, ◌≤◌}
-use native.Mathlib.Omega.{arith}
-use borrow.Author.Rules.{rules}
-use Rattle.seek.specs.Lists.{Args, rest_begin, args_go, args_in, args_past, args_whole}
+use Rattle.seek.specs.Lists.{Args}
 use Rattle.seek.proofs.in_args.Given as goal
 
 abbrev pub invariant-loop-i : goal.invariant-loop-i

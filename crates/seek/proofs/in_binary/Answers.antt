@@ -1,5 +1,4 @@
 -- `in_binary` meets its contract.
-use borrow.Author.Rules.{rules}
 use Rattle.seek.specs.Parts.{binary_left, binary_right}
 use Rattle.seek.proofs.in_binary.Goals as goal
 

@@ -1,6 +1,5 @@
 -- `in_call` meets its contract.
 use mathlib.Core.Path.{sym, ap, ◌∙◌}
-use borrow.Author.Rules.{rules}
 use Rattle.expr.specs.Names.{builtin_of}
 use Rattle.seek.specs.Parts.{call_in, poseidon_in, merkle_in, sender_own, nonce_own, number_own}
 use Rattle.seek.proofs.in_call.Goals as goal

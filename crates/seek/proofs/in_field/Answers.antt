@@ -1,5 +1,4 @@
 -- `in_field` meets its contract.
-use borrow.Author.Rules.{rules}
 use Rattle.seek.specs.Parts.{field_in}
 use Rattle.seek.proofs.in_field.Goals as goal
 

@@ -1,8 +1,6 @@
 -- `in_inits` meets its contract.
 use Prim.Native.Nat.{◌-◌, ◌≤◌}
-use native.Mathlib.Omega.{arith}
-use borrow.Author.Rules.{rules}
-use Rattle.seek.specs.Lists.{Inits, rest_begin, inits_go, inits_in, inits_past, inits_whole}
+use Rattle.seek.specs.Lists.{Inits}
 use Rattle.seek.proofs.in_inits.Given as goal
 
 abbrev pub invariant-loop-i : goal.invariant-loop-i

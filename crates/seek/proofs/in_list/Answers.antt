@@ -1,5 +1,4 @@
 -- `in_list` meets its contract.
-use borrow.Author.Rules.{rules}
 use Rattle.seek.specs.Parts.{list_at}
 use Rattle.seek.proofs.in_list.Goals as goal
 

@@ -1,5 +1,4 @@
 -- `in_literal` meets its contract.
-use borrow.Author.Rules.{rules}
 use Rattle.seek.specs.Parts.{literal_first, literal_in}
 use Rattle.seek.proofs.in_literal.Goals as goal
 

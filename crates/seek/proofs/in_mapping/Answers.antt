@@ -1,5 +1,4 @@
 -- `in_mapping` meets its contract.
-use borrow.Author.Rules.{rules}
 use Rattle.seek.specs.Parts.{mapping_in}
 use Rattle.seek.proofs.in_mapping.Goals as goal
 

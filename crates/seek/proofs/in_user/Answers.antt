@@ -1,6 +1,5 @@
 -- `in_user` meets its contract.
 use mathlib.Core.Path.{sym, ◌∙◌}
-use borrow.Author.Rules.{rules}
 use Rattle.seek.specs.Parts.{at_saved, user_first, user_in, user_call, user_own}
 use Rattle.seek.proofs.in_user.Goals as goal
 

@@ -1,5 +1,4 @@
 -- `in_value` meets its contract.
-use borrow.Author.Rules.{rules}
 use Rattle.seek.specs.Spots.{inside, behind}
 use Rattle.seek.proofs.in_value.Goals as goal
 

@@ -5,7 +5,6 @@ use Prim.Native.Nat.{ℕ, ◌+◌, ◌-◌, ◌≤◌}
 use native.Mathlib.Omega.{arith}
 use lib.Dec.{eqb}
 use borrow.Author.Tests.{eqb-true, eqb-false, eq-eqb, ne_eqb}
-use borrow.Author.Rules.{rules}
 use Rattle.seek.proofs.is_call.Goals as goal
 
 -- The same test on what is left behind the word.

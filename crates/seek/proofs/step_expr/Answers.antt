@@ -1,6 +1,6 @@
 -- `step_expr` meets its contract.
+use native.Mathlib.Omega.{arith}
 use mathlib.Core.Path.{ap}
-use borrow.Author.Rules.{rules}
 use Rattle.rules.specs.Bytes.{pick}
 use Rattle.rules.specs.Read.{kind_of, kMapping, kAccess, kLiteral, kBinary, kCall}
 use Rattle.seek.specs.Parts.{kind_in, kind_own}
@@ -27,4 +27,4 @@ unfolding kind_of pick
 returns-in-71 c = kind_in kCall c.kind.ensures.0 (ap kind_of c.in-71.is) c.in_call.ensures
 
 pub returns-in_default : goal.returns-in_default
-returns-in_default c = kind_own c.kind.ensures.0 c.in_default.in_default-own.rest.0.0.0.0.1 c.in_default.in_default-own.rest.0.0.0.1 c.in_default.in_default-own.rest.0.0.1 c.in_default.in_default-own.rest.0.1 c.in_default.in_default-own.rest.1 c.own.ensures
+returns-in_default c = kind_own c.kind.ensures.0 (omega arith) (omega arith) (omega arith) (omega arith) (omega arith) c.own.ensures

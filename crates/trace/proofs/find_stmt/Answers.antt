@@ -1,9 +1,6 @@
 -- `find_stmt` meets its contract.
-use mathlib.Core.Path.{◌≡◌, refl, ◌∙◌}
-use Rattle.emit.specs.declared.St.{St}
-use Rattle.trace.specs.Moves.{entering}
-use Rattle.trace.specs.Lists.{Down, down_begin, down_settled, down_go, down_end}
-use borrow.Author.Rules.{rules}
+use mathlib.Core.Path.{refl, ◌∙◌}
+use Rattle.trace.specs.Lists.{down_begin, down_settled, down_go, down_end}
 use Rattle.trace.proofs.find_stmt.Goals as goal
 
 pub loop-d-init : goal.loop-d-init

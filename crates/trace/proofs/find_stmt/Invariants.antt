@@ -1,9 +1,8 @@
 -- `find_stmt` meets its contract.
-use mathlib.Core.Path.{◌≡◌, refl, ◌∙◌}
+use mathlib.Core.Path.{◌≡◌}
 use Rattle.emit.specs.declared.St.{St}
 use Rattle.trace.specs.Moves.{entering}
-use Rattle.trace.specs.Lists.{Down, down_begin, down_settled, down_go, down_end}
-use borrow.Author.Rules.{rules}
+use Rattle.trace.specs.Lists.{Down}
 use Rattle.trace.proofs.find_stmt.Given as goal
 
 abbrev pub invariant-loop-d : goal.invariant-loop-d

@@ -1,9 +1,6 @@
 -- `in_emit` meets its contract.
 use Prim.Native.Nat.{◌-◌}
-use native.Mathlib.Omega.{arith}
-use borrow.Author.Rules.{rules}
-use Rattle.stmt.proofs.Lists.{goes_on}
-use Rattle.trace.specs.Lists.{Logs, logs_begin, logs_go, logs_in, logs_own, logs_end}
+use Rattle.trace.specs.Lists.{Logs}
 use Rattle.trace.proofs.in_emit.Given as goal
 
 abbrev pub invariant-loop-p : goal.invariant-loop-p

@@ -1,7 +1,6 @@
 -- `in_for` meets its contract.
 use mathlib.Core.Path.{refl}
 use native.Mathlib.Omega.{arith}
-use borrow.Author.Rules.{rules}
 use Rattle.rules.specs.Read.{stmt_as}
 use Rattle.bounds.specs.Sizes.{vars}
 use Rattle.trace.specs.Parts.{for_from, for_to, for_add, for_lt, for_loop}

@@ -1,7 +1,6 @@
 -- `in_if` meets its contract.
 use native.Mathlib.Omega.{arith}
 use lib.ListN.{length-set}
-use borrow.Author.Rules.{rules}
 use Rattle.rules.specs.Read.{stmt_as}
 use Rattle.bounds.specs.Sizes.{vars}
 use Rattle.stmt.proofs.Names.{fewer}

@@ -3,7 +3,6 @@ use mathlib.Core.Path.{sym, ◌∙◌}
 use Prim.Native.Nat.{◌+◌}
 use native.Mathlib.Omega.{arith}
 use borrow.Author.Tests.{leb-false}
-use borrow.Author.Rules.{rules}
 use Rattle.trace.specs.Moves.{jnz, jmp, back, body}
 use Rattle.trace.proofs.in_loop.Goals as goal
 

@@ -1,5 +1,4 @@
 -- `in_mapping` meets its contract.
-use borrow.Author.Rules.{rules}
 use Rattle.trace.specs.Parts.{mapping_left, mapping_right}
 use Rattle.trace.proofs.in_mapping.Goals as goal
 

@@ -1,5 +1,4 @@
 -- `in_return` meets its contract.
-use borrow.Author.Rules.{rules}
 use Rattle.trace.specs.Parts.{return_first, return_value, return_rest}
 use Rattle.trace.proofs.in_return.Goals as goal
 

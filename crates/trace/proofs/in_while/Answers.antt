@@ -1,5 +1,4 @@
 -- `in_while` meets its contract.
-use borrow.Author.Rules.{rules}
 use Rattle.trace.specs.Parts.{while_cond, while_loop}
 use Rattle.trace.proofs.in_while.Goals as goal
 

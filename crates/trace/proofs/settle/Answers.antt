@@ -1,7 +1,6 @@
 -- `settle` meets its contract.
 use mathlib.Core.Path.{refl}
 use Rattle.trace.specs.Moves.{owns, value}
-use borrow.Author.Rules.{rules}
 use Rattle.trace.proofs.settle.Goals as goal
 
 pub returns-then-t-eq-VALUE : goal.returns-then-t-eq-VALUE

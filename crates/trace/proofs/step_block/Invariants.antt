@@ -1,11 +1,6 @@
 -- `step_block` meets its contract.
-use mathlib.Core.Path.{◌∙◌}
 use Prim.Native.Nat.{◌-◌}
-use native.Mathlib.Omega.{arith}
-use lib.ListN.{length-set}
-use borrow.Author.Rules.{rules}
-use Rattle.stmt.proofs.Lists.{goes_on}
-use Rattle.trace.specs.Lists.{Rest, rest_begin, rest_ready, rest_go, rest_in, rest_last, rest_end}
+use Rattle.trace.specs.Lists.{Rest}
 use Rattle.trace.proofs.step_block.Given as goal
 
 abbrev pub invariant-loop-p : goal.invariant-loop-p

@@ -1,7 +1,6 @@
 -- `step_list` meets its contract.
 use mathlib.Core.Path.{refl}
 use Rattle.trace.specs.Lists.{falls_absent, falls_ready, falls_in}
-use borrow.Author.Rules.{rules}
 use Rattle.trace.proofs.step_list.Goals as goal
 
 pub step_block-b-requires : goal.step_block-b-requires

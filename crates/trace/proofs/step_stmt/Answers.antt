@@ -1,6 +1,6 @@
 -- `step_stmt` meets its contract.
+use native.Mathlib.Omega.{arith}
 use mathlib.Core.Path.{ap}
-use borrow.Author.Rules.{rules}
 use Rattle.rules.specs.Bytes.{pick}
 use Rattle.rules.specs.Read.{stmt_kind_of, sLet, sConstrain, sAssign, sStorage, sMapping, sIf, sWhile, sFor, sReturn, sEmit, sExpr}
 use Rattle.trace.specs.Parts.{let_in, constrain_in, assign_in, storage_in, just_in}
@@ -94,4 +94,4 @@ unfolding stmt_kind_of pick
 returns-in-42 c = kind_in c.args.img.now c.args.d c.args.at sExpr c.kind.ensures.0 (ap stmt_kind_of c.in-42.is) (just_in c.body-first.ensures.0 c.in_value-in-42.ensures)
 
 pub returns-in_default : goal.returns-in_default
-returns-in_default c = kind_own c.kind.ensures.0 c.in_default.in_default-own.rest.0.0.0.0.0.0.0.0.0.0.1 c.in_default.in_default-own.rest.0.0.0.0.0.0.0.0.0.1 c.in_default.in_default-own.rest.0.0.0.0.0.0.0.0.1 c.in_default.in_default-own.rest.0.0.0.0.0.0.0.1 c.in_default.in_default-own.rest.0.0.0.0.0.0.1 c.in_default.in_default-own.rest.0.0.0.0.0.1 c.in_default.in_default-own.rest.0.0.0.0.1 c.in_default.in_default-own.rest.0.0.0.1 c.in_default.in_default-own.rest.0.0.1 c.in_default.in_default-own.rest.0.1 c.in_default.in_default-own.rest.1 c.own.ensures
+returns-in_default c = kind_own c.kind.ensures.0 (omega arith) (omega arith) (omega arith) (omega arith) (omega arith) (omega arith) (omega arith) (omega arith) (omega arith) (omega arith) (omega arith) c.own.ensures

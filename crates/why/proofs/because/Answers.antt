@@ -11,7 +11,6 @@ use Rattle.rules.specs.Bytes.{pick}
 use Rattle.rules.specs.Why.{because}
 use Rattle.seek.specs.declared.Spot.{Spot}
 use Rattle.why.specs.Tells.{target_in}
-use borrow.Author.Rules.{rules}
 use Rattle.why.proofs.because.Goals as goal
 
 -- The answer for a spot with a target, and for one without.

@@ -1,9 +1,6 @@
 -- `why::function_of` meets its contract.
-use mathlib.Core.Path.{◌≡◌, refl}
-use Prim.Native.Nat.{◌-◌, ◌≤◌, ◌<◌}
+use mathlib.Core.Path.{refl}
 use native.Mathlib.Omega.{arith}
-use lib.ListN.{get_or}
-use borrow.Author.Rules.{rules}
 use Rattle.why.proofs.function_of.Goals as goal
 
 pub loop-k-init : goal.loop-k-init

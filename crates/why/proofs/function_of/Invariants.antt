@@ -1,9 +1,7 @@
 -- `why::function_of` meets its contract.
-use mathlib.Core.Path.{◌≡◌, refl}
+use mathlib.Core.Path.{◌≡◌}
 use Prim.Native.Nat.{◌-◌, ◌≤◌, ◌<◌}
-use native.Mathlib.Omega.{arith}
 use lib.ListN.{get_or}
-use borrow.Author.Rules.{rules}
 use Rattle.why.proofs.function_of.Given as goal
 
 abbrev pub invariant-loop-k : goal.invariant-loop-k

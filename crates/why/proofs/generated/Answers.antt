@@ -5,7 +5,6 @@ use Rattle.rules.specs.Check.{check_of}
 use Rattle.rules.specs.Why.{because}
 use Rattle.compiler.proofs.Making.{sound_of}
 use Rattle.why.specs.Answers.{why_refused, why_past, why_word, some_function, few_words}
-use borrow.Author.Rules.{rules}
 use Rattle.why.proofs.generated.Goals as goal
 
 pub generated-a-requires : goal.generated-a-requires

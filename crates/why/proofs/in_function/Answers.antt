@@ -7,7 +7,6 @@ use lib.Seq.{get_or-set_same}
 use borrow.Author.Tests.{leb-false}
 use Rattle.codegen.proofs.Pieces.{ready}
 use Rattle.why.specs.Answers.{entry_own, exit_own, inside}
-use borrow.Author.Rules.{rules}
 use Rattle.why.proofs.in_function.Goals as goal
 
 pub bind_params-b-requires : goal.bind_params-b-requires

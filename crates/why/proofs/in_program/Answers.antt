@@ -1,12 +1,11 @@
 -- `why::in_program` meets its contract.
 use mathlib.Core.Path.{◌≡◌, refl, ap}
-use mathlib.Core.Logic.{⊎_elim}
 use Prim.Native.Nat.{ℕ, ◌≤◌, ◌<◌}
 use native.Mathlib.Omega.{arith}
 use Rattle.codegen.proofs.Firsts.{given, at_most}
 use Rattle.seek.specs.Spots.{called}
 use Rattle.why.specs.Answers.{opened_main, opened_plain, opened_in}
-use borrow.Author.Rules.{rules}
+use Rattle.why.proofs.in_program.Goals.{then-k-count, else-k-count}
 use Rattle.why.proofs.in_program.Goals as goal
 
 -- Where the function ends, by cases: another one follows, or none.
@@ -47,4 +46,4 @@ pub shape_of-scope : goal.shape_of-scope
 shape_of-scope c = c.in_function.auto.scope
 
 pub returns : goal.returns
-returns c = opened_in c.if-want-lt3.false (c.function_count-count.ensures c.args.img.now c.requires.checked.known.0) c.requires.some c.function_of-k.ensures (c.function_place.ensures c.args.img.now c.requires.checked.known.0 (omega (arith, c.function_count-count.ensures c.args.img.now c.requires.checked.known.0, c.function_of-k.ensures.within (omega (arith, c.function_count-count.ensures c.args.img.now c.requires.checked.known.0, c.requires.some))))) refl (⊎_elim (λ w. ahead w.0.taken w.2) (λ w. behind w.0.left w.1) c.if-k-count.branch) c.in_function.ensures
+returns c = opened_in c.if-want-lt3.false (c.function_count-count.ensures c.args.img.now c.requires.checked.known.0) c.requires.some c.function_of-k.ensures (c.function_place.ensures c.args.img.now c.requires.checked.known.0 (omega (arith, c.function_count-count.ensures c.args.img.now c.requires.checked.known.0, c.function_of-k.ensures.within (omega (arith, c.function_count-count.ensures c.args.img.now c.requires.checked.known.0, c.requires.some))))) refl (elim c.if-k-count.branch [ then-k-count w ↦ ahead w.if-k-count.true w.end-is | else-k-count w ↦ behind w.if-k-count.false w.end-is ]) c.in_function.ensures

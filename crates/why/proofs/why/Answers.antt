@@ -4,7 +4,6 @@ use Rattle.rules.specs.Build.{analysis_answer}
 use Rattle.notes.specs.Wrote.{blank}
 use Rattle.compiler.proofs.Making.{front_ready}
 use Rattle.why.specs.Answers.{whole_refused, whole_generated}
-use borrow.Author.Rules.{rules}
 use Rattle.why.proofs.why.Goals as goal
 
 pub judge-requires : goal.judge-requires
