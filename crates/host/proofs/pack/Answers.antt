@@ -1,5 +1,4 @@
 -- `host::pack` meets its contract: the three numbers have room.
-use mathlib.Core.Path.{refl}
 use native.Mathlib.Omega.{arith}
 use Rattle.rules.specs.Build.{packed}
 use Rattle.host.proofs.pack.Goals as goal
