@@ -16,13 +16,9 @@ use Rattle.rules.specs.Layout.{with_position, positions, first_of, declared, amo
 use Rattle.rules.specs.Machine.{Imm}
 use Rattle.rules.specs.Emit.{Rules, Scope, Open, Value, emit}
 use Rattle.rules.specs.Generate.{alloc_reg_lem, expr}
-use Rattle.rules.specs.declared.Seen.TheVariants.{Sound}
-use Rattle.rules.specs.Check.{check_of}
-use Rattle.rules.specs.Read.{contract_at}
 use Rattle.records.specs.Names.{name_refl}
 use Rattle.bounds.specs.Held.{Each}
 use Rattle.bounds.specs.Sparse.{Apart}
-use Rattle.bounds.specs.ContractOf.{accesses_sparse}
 use Rattle.before.specs.Meant.{bad_ok, meant_has}
 
 -- Where no two stand at one place, each is the one that is found by its place and field.
@@ -32,7 +28,7 @@ unfolding base_at pick
 base_later a l [] f h = tt
 base_later a l (b ∷ k) f h = (rw (ne_eqb a.place b.place (λ z. f.0 (ap (λ n. n / 3) z))) h.0, base_later a l k f.1 h.1)
 
-base_found : (l : List Access) → Apart l → Each (λ (a : Access). base_at a.place a.field l ≡ a.base) l
+pub base_found : (l : List Access) → Apart l → Each (λ (a : Access). base_at a.place a.field l ≡ a.base) l
 unfolding base_at pick
 base_found [] h = tt
 base_found (a ∷ l) h = (rw (eq-eqb a.place a.place refl, name_refl a.field), base_later a l l h.0 (base_found l h.1))
@@ -76,7 +72,7 @@ unfoldable pub Meant : Contract → Access → Type 0
 Meant C a = (d : Struct) → declared C a.base ≡ some d → (i : ℕ) × ((first_index field_name 0 a.field d.fields ≡ some i)
     × ((R : Rules) (e : Expr) (s : Scope) (n : ℕ) (v : Value) → expr R C (Expr.field-access a.place e a.field) s n ≡ ok v → EndsWithLoad a.place (i * 8) v.code))
 
-meant_each : (C : Contract) (l : List Access) → Each (λ (a : Access). base_at a.place a.field (accesses C) ≡ a.base) l → Each (Meant C) l
+pub meant_each : (C : Contract) (l : List Access) → Each (λ (a : Access). base_at a.place a.field (accesses C) ≡ a.base) l → Each (Meant C) l
 unfolding Meant
 meant_each C [] h = tt
 meant_each C (a ∷ l) h = (one, meant_each C l h.1)
@@ -85,6 +81,3 @@ meant_each C (a ∷ l) h = (one, meant_each C l h.1)
     one d e =
         let g = at_first C a.place a.field d (ap (declared C) h.0 ∙ e) _ refl in
         (g.0, (g.1.0, λ R f s n v z. subst (λ k. EndsWithLoad a.place k v.code) g.1.1 (access_load R C a.place f a.field s n v z)))
-
-pub meant_loads : (img : List ℕ) (q m : ℕ) → check_of img ≡ Sound q m → Each (Meant (contract_at img)) (accesses (contract_at img))
-meant_loads img q m e = meant_each (contract_at img) (accesses (contract_at img)) (base_found (accesses (contract_at img)) (accesses_sparse img q m e).apart)

@@ -15,9 +15,9 @@ use Rattle.rules.specs.Link.{Program}
 use Rattle.rules.specs.Build.{passed, analysed, program, fits, listed, outcome, program_answer, packed, build_of}
 use Rattle.bounds.specs.Cuts.{cut}
 use Rattle.bounds.specs.Said.{said_of}
-use Rattle.bounds.specs.Refused.{analysed_plain}
-use Rattle.bounds.specs.Programs.{program_bounded}
-use Rattle.heights.specs.Theorem.{as_many}
+use Rattle.bounds.proofs.Refused.{analysed_plain}
+use Rattle.bounds.proofs.Programs.{program_bounded}
+use Rattle.heights.proofs.Theorem.{as_many}
 use Rattle.host.specs.Ends.{Small, small_refused, refusal_plain}
 
 -- The check's answer as three numbers (01: What comes back).

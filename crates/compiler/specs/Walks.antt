@@ -7,7 +7,7 @@ use Rattle.rules.specs.Read.{contract_at}
 use Rattle.rules.specs.Emit.{Rules}
 use Rattle.rules.specs.Machine.{Demand3}
 use Rattle.heights.specs.Slices.{entries_in, words_in, table_in}
-use Rattle.heights.specs.Demand3.{demand_3_lent}
+use Rattle.heights.proofs.Demand3.{demand_3_lent}
 use Rattle.compiler.specs.Ends.{Built}
 
 -- If it answers 0, the first `count` numbers of the code slice with the entries that stand in the table obey the law: on any path through any

@@ -19,10 +19,12 @@ use Rattle.rules.specs.Lent.{over, spread}
 use Rattle.rules.specs.Build.{outcome, program_answer, words_of, three_of, at_exit, build_of, code_of, table_of}
 use Rattle.lent.specs.Over.{length_spread}
 use Rattle.lent.specs.Rest.{Rest, rest_over, all_zero}
-use Rattle.heights.specs.Theorem.{as_many}
-use Rattle.heights.specs.Accepted.{Fitting, accepted}
-use Rattle.heights.specs.Slices.{words_in, Lent, lent}
-use Rattle.bounds.specs.Programs.{program_no_top}
+use Rattle.heights.proofs.Theorem.{as_many}
+use Rattle.heights.specs.Accepted.{Fitting}
+use Rattle.heights.proofs.Accepted.{accepted}
+use Rattle.heights.specs.Slices.{words_in, Lent}
+use Rattle.heights.proofs.Slices.{lent}
+use Rattle.bounds.proofs.Programs.{program_no_top}
 use Rattle.compiler.specs.Ends.{Built}
 
 three : (e : Entry) → length (three_of e) ≡ 3

@@ -1,25 +1,22 @@
 -- The law refuses what it is to refuse: four wrong translations, each a word list with its table, and a proof that the law does not
 -- hold of it. And it minds no dead code: it holds of a function with nonsense behind its Return.
 -- Assumes nothing.
-use Rattle.std.specs.Prelude.{refl, List, [], ◌∷◌, ◌++◌, ℕ, zero, suc, ◌≤◌, ◌<◌}
-use Rattle.std.proofs.Common.{sym, ap, arith}
+use Rattle.std.specs.Prelude.{refl, List, [], ◌∷◌, ◌++◌, ℕ}
+use Rattle.std.proofs.Common.{arith}
 use Rattle.isa.specs.declared.Opcode.TheVariants as op
 use Rattle.rules.specs.Bytes.{pick, eq_name}
 use Rattle.rules.specs.Tables.{or_else, last}
-use Rattle.rules.specs.Machine.{Imm, Word, Entry, At, kind, Way, Path, start, step, Heights}
+use Rattle.rules.specs.Machine.{Imm, Word, Entry, Way, Path, start, step, Heights}
 use Rattle.rules.specs.Emit.{Open, calls, emit, push, pop, load, ret, branches}
 use Rattle.rules.specs.Link.{less, distance, patch, link}
-use Rattle.heights.specs.Positions.{at_one, at_short}
-use Rattle.heights.specs.Entries.{Covers, apart}
-use Rattle.heights.specs.Certificate.{Right, heights}
 use Rattle.heights.specs.Law.{ret_at_two}
 
 -- The function that is walked: no parameters, at index 0, no name.
-pub walked : Entry
+unfoldable pub walked : Entry
 walked = record { place = 0; name = []; params = 0; first = 0; past = 12 }
 
 -- One that it calls: two parameters, behind it, the name a.
-pub called : Entry
+unfoldable pub called : Entry
 called = record { place = 0; name = 97 ∷ []; params = 2; first = 12; past = 24 }
 
 -- Both.
@@ -27,7 +24,7 @@ abbrev pub table : List Entry
 table = walked ∷ called ∷ []
 
 -- The words of a function whose body's words are c: the return address off the stack and on again; c; 0 and the address, Ret.
-pub around : List Open → List Word
+unfoldable pub around : List Open → List Word
 around c = link table 0 (pop 0 1 ∷ push 0 1 ∷ (c ++ (pop 0 2 ∷ load 0 3 0 ∷ push 0 3 ∷ push 0 2 ∷ ret 0 ∷ [])))
 
 -- An If whose else leaves one value more on the stack.
@@ -93,28 +90,9 @@ restored_refuted law = omega (arith, ret_at_two _ _ _ law 9 3 at-ret _ refl refl
         _ refl Way.pass 0 1 8 (refl, refl, refl) 1 refl) _ refl Way.pass 0 1 9 (refl, refl, refl) 2 refl
 
 -- A Return, and behind it words that would take what is not there, jump out of the function, and halt.
-pub dead_code : List Open
+unfoldable pub dead_code : List Open
 dead_code = pop 0 2 ∷ load 0 3 7 ∷ push 0 3 ∷ push 0 2 ∷ ret 0 ∷ pop 0 1 ∷ pop 0 1 ∷ emit 0 op.Jmp 0 0 0 (Imm.neg 9) ∷ emit 0 op.Halt 0 0 0 (Imm.pos 0) ∷ []
 
 -- The heights up to the Ret.
-abbrev met : List ℕ
+abbrev pub met : List ℕ
 met = 1 ∷ 0 ∷ 1 ∷ 0 ∷ 0 ∷ 1 ∷ 2 ∷ []
-
--- It obeys the law.
-pub dead_code_passes : Heights (around dead_code) table walked
-unfolding around dead_code link patch walked called Covers
-dead_code_passes = heights (around dead_code) table (apart 0 24 table (refl, omega arith, (refl, omega arith, refl))) walked (At met)
-    (record { inside = inside; single = λ i x y. at_one met i x y; begins = refl; right = right })
-  where
-    inside : (i x : ℕ) → At met i x → (walked.first ≤ i) × (i < walked.past)
-    inside i x h = omega (arith, at_short met i x h)
-
-    right : (i x : ℕ) → At met i x → (w : Word) × At (around dead_code) i w × Right table (At met) i x w.imm (kind w.op)
-    right zero x h = (_, refl, (0, h, refl))
-    right (suc zero) x h = (_, refl, ap suc h)
-    right (suc (suc zero)) x h = (_, refl, (0, h, refl))
-    right (suc (suc (suc zero))) x h = (_, refl, h)
-    right (suc (suc (suc (suc zero)))) x h = (_, refl, ap suc h)
-    right (suc (suc (suc (suc (suc zero))))) x h = (_, refl, ap suc h)
-    right (suc (suc (suc (suc (suc (suc zero)))))) x h = (_, refl, sym h)
-    right (suc (suc (suc (suc (suc (suc (suc i))))))) x h = absurd h

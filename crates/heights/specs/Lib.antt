@@ -11,7 +11,6 @@ pub mod Fits
 pub mod Checks
 pub mod Pieces
 pub mod Placed
-pub mod Judged
 pub mod Theorem
 pub mod Accepted
 pub mod Slices

@@ -11,7 +11,7 @@ use Rattle.rules.specs.Bytes.{le64}
 use Rattle.rules.specs.Lent.{over}
 use Rattle.rules.specs.Texts.{bytes, decimal}
 use Rattle.rules.specs.Lines.{hex_digits, flag, line_of, lines_of, lined_in, lines_in, lines_bytes}
-use Rattle.bounds.specs.Texts.{decimal_few}
+use Rattle.bounds.proofs.Texts.{decimal_few}
 use Rattle.pieces.specs.Lays.{Lays, lays_length, lays_nothing, lays_then}
 use Rattle.pieces.specs.Hex.{length_hex}
 

@@ -25,7 +25,7 @@ use Rattle.records.specs.Names.{name_refl, never}
 use Rattle.bounds.specs.Held.{Opt, opt_some, Each, first_index_low}
 use Rattle.bounds.specs.Cuts.{cut, declared_few}
 use Rattle.bounds.specs.Sparse.{Apart, Sparse}
-use Rattle.bounds.specs.ContractOf.{uncut, accesses_sparse}
+use Rattle.bounds.proofs.ContractOf.{uncut, accesses_sparse}
 use Rattle.before.specs.Fields.{some_none, some_same}
 use Rattle.before.specs.Meant.{meant_has}
 use Rattle.notes.specs.Notes.{noted, left, read_as_lem, note_at, spot_in_lem, spot_of, marked, written, field_in, Noted, Blank}

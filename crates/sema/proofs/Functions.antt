@@ -16,7 +16,7 @@ use Rattle.rules.specs.Meant.{Access, of_function, of_functions, accesses}
 use Rattle.rules.specs.Build.{passed}
 use Rattle.rules.specs.Joined.{whole}
 use Rattle.bounds.specs.Held.{each_of_map, each_get}
-use Rattle.bounds.specs.ContractOf.{names_few}
+use Rattle.bounds.proofs.ContractOf.{names_few}
 use Rattle.tables.specs.Listed.{functions_in}
 use Rattle.notes.specs.Notes.{written}
 use Rattle.notes.specs.Left.{written_append}

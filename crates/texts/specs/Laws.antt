@@ -20,7 +20,8 @@ use Rattle.rules.specs.Link.{Program, generate}
 use Rattle.rules.specs.Build.{rules, passed, judged, program, analysis_answer}
 use Rattle.rules.specs.Texts.{text_of, told_text, told_answer, text_answer, text_bytes}
 use Rattle.bounds.specs.Said.{Said, Any, said_of}
-use Rattle.bounds.specs.Texts.{Own, generated_as, texts_fit, generated_own}
+use Rattle.bounds.specs.Texts.{Own, generated_as}
+use Rattle.bounds.proofs.Texts.{texts_fit, generated_own}
 use Rattle.emit.specs.Sinks.{Sinks}
 use Rattle.compiler.specs.Stages.{Makes, made, not_made}
 use Rattle.sema.specs.declared.front.Judged.{Judged}

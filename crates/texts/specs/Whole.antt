@@ -16,7 +16,7 @@ use Rattle.rules.specs.Lent.{over}
 use Rattle.rules.specs.Build.{rules, program, fits, listed, outcome, program_answer, build_of}
 use Rattle.rules.specs.Texts.{text_of, told_text, told_answer, text_answer, text_bytes}
 use Rattle.bounds.specs.Said.{said_of}
-use Rattle.bounds.specs.Texts.{texts_fit}
+use Rattle.bounds.proofs.Texts.{texts_fit}
 use Rattle.lent.specs.Rest.{Rest, rest_over}
 
 -- Only 10 to 47 but 30 have a text: a number is 30 if it is 10 or more.

@@ -34,8 +34,9 @@ use Rattle.rules.specs.Why.{mark_of, target_of, marked, marked_of, because, word
 use Rattle.bounds.specs.Answers.{All, from_ok}
 use Rattle.bounds.specs.Said.{said_all}
 use Rattle.bounds.specs.SaidProgram.{Of}
-use Rattle.bounds.specs.Programs.{Bounded, generated}
-use Rattle.bounds.specs.Refused.{judged_plain}
+use Rattle.bounds.specs.Programs.{Bounded}
+use Rattle.bounds.proofs.Programs.{generated}
+use Rattle.bounds.proofs.Refused.{judged_plain}
 use Rattle.bounds.specs.Held.{Opt, last_index_low}
 use Rattle.bounds.specs.Cuts as cuts
 use Rattle.tables.specs.Listed.{functions_in}

@@ -24,7 +24,7 @@ use Rattle.rules.specs.Why.{mark_of, landing, target_of, marked}
 use Rattle.bounds.specs.Answers.{All, all_ok, all_bad, from_ok, all_bind, all_next, all_pick}
 use Rattle.bounds.specs.Held.{Each, each_map}
 use Rattle.bounds.specs.Whole.{Here, Whole, WholeExprs, WholeInits, WholeStmt, WholeStmts, WholeFunction}
-use Rattle.bounds.specs.ContractOf.{all_whole}
+use Rattle.bounds.proofs.ContractOf.{all_whole}
 
 -- An offset that leads ahead.
 abbrev Onward : Imm → Type 0

@@ -21,11 +21,13 @@ use Rattle.bounds.specs.Answers.{All, from_ok}
 use Rattle.bounds.specs.Held.{Opt, Each, each_last}
 use Rattle.bounds.specs.Numbers.{In32}
 use Rattle.bounds.specs.Ranges.{WordOf, Ranged}
-use Rattle.bounds.specs.ContractOf.{uncut}
+use Rattle.bounds.proofs.ContractOf.{uncut}
 use Rattle.bounds.specs.Said.{Said, said_ok, said_bad, Any, said_of}
 use Rattle.bounds.specs.SaidProgram.{Of}
-use Rattle.bounds.specs.Refused.{Plain, judged_plain, generate_plain}
-use Rattle.bounds.specs.Programs.{Short, built}
+use Rattle.bounds.specs.Refused.{Plain}
+use Rattle.bounds.proofs.Refused.{judged_plain, generate_plain}
+use Rattle.bounds.specs.Programs.{Short}
+use Rattle.bounds.proofs.Programs.{built}
 use Rattle.why.specs.Lands.{Good, marked_good}
 
 -- A number below 256, a place of at most 65,536, and a target below 2^32 - 1, so that it can be counted from 1.

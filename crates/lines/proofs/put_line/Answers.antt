@@ -3,7 +3,7 @@ use Rattle.std.proofs.Common.{arith}
 use Rattle.isa.specs.Word.{top_of}
 use Rattle.rules.specs.Texts.{bytes}
 use Rattle.rules.specs.Lines.{line_of}
-use Rattle.bounds.specs.Texts.{decimal_few}
+use Rattle.bounds.proofs.Texts.{decimal_few}
 use Rattle.pieces.specs.Lays.{lays_then}
 use Rattle.pieces.specs.Hex.{length_hex}
 use Rattle.lines.specs.Lengths.{length_flag}

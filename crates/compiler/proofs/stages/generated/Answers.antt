@@ -2,7 +2,7 @@
 use native.Mathlib.Omega.{arith}
 use Rattle.rules.specs.Check.{check_of}
 use Rattle.emit.specs.State.{rules_of}
-use Rattle.bounds.specs.Refused.{generate_plain}
+use Rattle.bounds.proofs.Refused.{generate_plain}
 use Rattle.compiler.specs.Made.{generated_mirrors}
 use Rattle.compiler.proofs.Making.{sound_of, made_fine, made_unfit}
 use Rattle.compiler.proofs.stages.generated.Goals as goal

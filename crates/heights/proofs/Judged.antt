@@ -16,7 +16,8 @@ use Rattle.rules.specs.Machine.{Kind, Imm, Word, Entry, At, kind, Lands, Starts,
 use Rattle.rules.specs.Emit.{Open, word, calls}
 use Rattle.rules.specs.Link.{distance, patch, link}
 use Rattle.heights.specs.Positions.{Stands}
-use Rattle.heights.specs.Certificate.{Right, Certified, only_ret}
+use Rattle.heights.specs.Certificate.{Right, Certified}
+use Rattle.heights.proofs.Certificate.{only_ret}
 use Rattle.heights.specs.Law.{Stopped, Home}
 use Rattle.heights.specs.Segment.{Reading, Flow, flow, flow_of, Place, Noted, tops, Holds, Goes, Sounds, Leads, Run, enter, onward, Leaves, Piece, noted, goes_up}
 use Rattle.heights.specs.Level.{height, CanHeight, StepHeight}

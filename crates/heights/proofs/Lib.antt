@@ -1,0 +1,10 @@
+pub mod Changes
+pub mod Checks
+pub mod Pieces
+pub mod Theorem
+pub mod Slices
+pub mod Demand3
+pub mod Certificate
+pub mod Judged
+pub mod Accepted
+pub mod Examples
