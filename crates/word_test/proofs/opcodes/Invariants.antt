@@ -1,8 +1,5 @@
 -- `word_test::opcodes` ends, and its sums fit.
-use mathlib.Core.Logic.{⊎_elim}
-use native.Mathlib.Omega.{arith}
 use Prim.Native.Nat.{◌-◌, ◌≤◌}
-use borrow.Author.Rules.{rules}
 use Rattle.word_test.proofs.opcodes.Given as goal
 
 abbrev pub invariant-loop-n : goal.invariant-loop-n
