@@ -1,4 +1,4 @@
--- Number, place and count of every refusal before the room is looked at: an instance of `program-said`.
+-- Number, place and count of every refusal before the room is looked at: an instance of `program_said`.
 -- Assumes nothing.
 use Rattle.std.specs.Prelude.{◌≡◌, refl, List, ℕ, ◌≤◌, ◌<◌, length}
 use Rattle.std.proofs.Common.{ap, subst, sym, arith}

@@ -219,7 +219,7 @@ fn check_record(
     }
 }
 
-// The first fault of an image, or where it ends: the numbers of document 01's rows 1 to 7 are given by `rules` Check (`refusalOf`, `childrenOf`, `whole_of`, `checkOf`).
+// The first fault of an image, or where it ends: the numbers of document 01's rows 1 to 7 are given by `rules` Check (`refusal_of`, `children_of`, `whole_of`, `check_of`).
 pub fn check(image: &[u8]) -> Seen
     ensures { result ≡ check_of image.now }
 {

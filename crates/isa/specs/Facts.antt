@@ -18,8 +18,8 @@ use Rattle.isa.specs.Word.{opcodes, opcode_of, read_as_lem, alone, patch_as}
 abbrev pub row : (rd rs1 rs2 imm : Bool) → Height → Fact
 row d s t i h = record { known = true; rd = d; rs1 = s; rs2 = t; imm = i; height = h }
 
--- 000: emit: which of rd, rs1, rs2 and imm are set in some word of the opcode (bounds: no program sets more, `program-unset`, and each is set in
--- one, `Each-set`); 01: Heights: what the word does to the height, Call and Ret apart (heights: by Machine's `kind`, `row-kind`)
+-- 000: emit: which of rd, rs1, rs2 and imm are set in some word of the opcode (bounds: no program sets more, `program_unset`, and each is set in
+-- one, `Each-set`); 01: Heights: what the word does to the height, Call and Ret apart (heights: by Machine's `kind`, `row_kind`)
 abbrev pub row_of : Opcode → Fact
 row_of Halt = row false false false false Same
 row_of Add = row true true true false Same

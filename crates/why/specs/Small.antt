@@ -1,4 +1,4 @@
--- The answer of `why` is small enough for a number of 64 bits (02: P5), of any image and any index: an instance of `marked-good`.
+-- The answer of `why` is small enough for a number of 64 bits (02: P5), of any image and any index: an instance of `marked_good`.
 -- Assumes nothing.
 use Rattle.std.specs.Prelude.{◌≡◌, refl, true, false, length}
 use Rattle.std.proofs.Math.Option.{Option, none, some}

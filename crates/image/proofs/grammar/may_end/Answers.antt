@@ -1,4 +1,4 @@
--- `image::grammar::may_end`: each return by its tests, and the classes' rows (`must-listed`, `must-alone`).
+-- `image::grammar::may_end`: each return by its tests, and the classes' rows (`must_listed`, `must_alone`).
 use Rattle.rules.specs.Grammar.{class_of}
 use Rattle.image.proofs.Table.{must_listed, must_alone}
 use borrow.Author.Rules.{rules}

@@ -1,4 +1,4 @@
--- `image::read::few_name`: where no top bit is set no sum wraps (`few-room`), and then the test tells the three bytes (`few`).
+-- `image::read::few_name`: where no top bit is set no sum wraps (`few_room`), and then the test tells the three bytes (`few`).
 use mathlib.Core.Path.{sym, subst, ap, ◌∙◌}
 use native.Mathlib.Omega.{arith}
 use borrow.Author.Tests.{eqb-true}

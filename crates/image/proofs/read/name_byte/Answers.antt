@@ -1,4 +1,4 @@
--- `image::read::name_byte`: at each return the tests that led there give the value of each test of `nameByte`.
+-- `image::read::name_byte`: at each return the tests that led there give the value of each test of `name_byte_lem`.
 use native.Mathlib.Omega.{arith}
 use borrow.Author.Tests.{le-leb, lt-leb, eq-eqb, ne_eqb}
 use Rattle.rules.specs.Bytes.{name_byte_lem}

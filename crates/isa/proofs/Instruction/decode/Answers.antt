@@ -1,4 +1,4 @@
--- `isa::Instruction::decode` meets its contract: what `of` answers picks the case of `readAs`.
+-- `isa::Instruction::decode` meets its contract: what `of` answers picks the case of `read_as_lem`.
 use Rattle.std.proofs.Common.{◌≡◌, ℕ, ◌%◌, ◌^◌, List, sym, ap, ◌∙◌}
 use Rattle.isa.specs.declared.Opcode.{Opcode}
 use Rattle.isa.specs.declared.Op.TheVariants.{Known}

@@ -1,4 +1,4 @@
--- `isa::Instruction::encode` meets its contract: the tests that led to each `return` pick the case of `encodeOf`.
+-- `isa::Instruction::encode` meets its contract: the tests that led to each `return` pick the case of `encode_of`.
 use Rattle.std.proofs.Common.{le-leb}
 use borrow.Author.Tests.{lt-leb}
 use Rattle.isa.specs.Word.{encode_of, word_of}

@@ -1,4 +1,4 @@
--- `isa::Instruction::patched` meets its contract: what `decode` answers picks the case of `patchAs`.
+-- `isa::Instruction::patched` meets its contract: what `decode` answers picks the case of `patch_as`.
 use Rattle.std.proofs.Common.{sym, ap, ◌∙◌}
 use Rattle.isa.specs.Word.{patch_as}
 use Rattle.isa.specs.Facts.{patch_by}

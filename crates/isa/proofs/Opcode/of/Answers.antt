@@ -1,4 +1,4 @@
--- `isa::Opcode::of` meets its contract: what the table says of the byte picks the case of `opcodeBy`.
+-- `isa::Opcode::of` meets its contract: what the table says of the byte picks the case of `opcode_by`.
 use Rattle.std.proofs.Common.{◌≡◌, ℕ, Bool, true, false, cond, List, get_or, sym, ap, ◌∙◌}
 use Rattle.isa.specs.declared.Opcode.TheVariants.{VerifyMerkle}
 use Rattle.isa.specs.declared.Op.TheVariants.{Known, Unknown}

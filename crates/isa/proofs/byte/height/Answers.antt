@@ -1,4 +1,4 @@
--- `isa::byte::height` meets its contract: each arm is an entry of the list of `heightIn`; the rest is past its end.
+-- `isa::byte::height` meets its contract: each arm is an entry of the list of `height_in`; the rest is past its end.
 use Rattle.std.proofs.Common.{refl, arith}
 use Rattle.isa.specs.Facts.{height_in}
 use Rattle.isa.specs.Ruled.{passed, height_last}
