@@ -2,7 +2,7 @@
 --     deep, stays               a step that is known to go into a part, or to stay
 --     into_first, row_own       in the first of several steps; in it, or in words of the record itself behind it
 --     takes_fresh, fresh_own, fresh_past      a new register and the word that fills it
---     binary_left, .., user_own               from an expression of each kind; kind_in, kind-own: by its number
+--     binary_left, .., user_own               from an expression of each kind; kind_in, kind_own: by its number
 -- Assumes nothing.
 use Rattle.std.specs.Prelude.{◌≡◌, Bool, eqb}
 use Rattle.std.proofs.Math.Path.{refl, sym, ap, subst}

@@ -1,7 +1,7 @@
 -- How the walk's spot becomes the answer.
 --     entry_own, exit_own, inside      a function: its first words, its last five, its statements
 --     opened_main, opened_plain, opened_in      a word of the program
---     why_refused, why_past, why_word           the answer behind analysis; few_words, some-function: of what was generated
+--     why_refused, why_past, why_word           the answer behind analysis; few_words, some_function: of what was generated
 --     whole_refused, whole_generated            the whole answer
 -- Assumes nothing.
 use Rattle.std.specs.Prelude.{◌≡◌, Bool, leb, ltb, take}

@@ -1,5 +1,5 @@
 -- A word of the program, by the function that it lies in (000: generate, the loop over the functions).
---     linked_marked  marking changes no word; marked-is: the opening, then the functions; marked-some: there is one
+--     linked_marked  marking changes no word; marked_is: the opening, then the functions; marked_some: there is one
 --     Part, part     the words of the function with index k among those of all
 --     targets        the first word of the last function of a name, by that function's index
 -- Assumes nothing.
