@@ -5,10 +5,10 @@
 --     begin_fields, one_field, end_fields, end_count     the Fields of a struct
 --     one_struct, agreed     the structs, and what comes of it
 -- Assumes nothing.
+use Rattle.std.specs.Prelude.{None, Some, Option}
 use mathlib.Core.Bool.{Bool, true, false}
 use mathlib.Core.List.{List, [], ◌∷◌, map}
 use mathlib.Core.Logic.{◌⊎◌, inl, inr}
-use mathlib.Core.Option.{Option, none, some}
 use mathlib.Core.Path.{◌≡◌, refl, sym, ap, ◌∙◌}
 use Prim.Native.Nat.{ℕ, zero, suc, ◌+◌, ◌-◌, ◌*◌, ◌%◌, ◌≤◌, ◌<◌}
 use native.Mathlib.Nat.{mod-lt}
@@ -27,8 +27,7 @@ use Rattle.rules.specs.Ambiguous.{differs, apart}
 use Rattle.records.specs.Keys.{key_of}
 use Rattle.records.specs.Names.{name_eq}
 use Rattle.tables.specs.Listed.{structs_in}
-use Rattle.ambiguous.specs.declared.Spot.TheVariants as spot
-use Rattle.ambiguous.specs.Spots.{spot_of, unsure}
+use Rattle.ambiguous.specs.Spots.{unsure}
 use Rattle.ambiguous.specs.Slots.{look, looked, Extends, Slot, Noted, Held}
 use Rattle.fields.specs.Steps.{field_zero, field_end, field_here, field_next}
 
@@ -101,19 +100,17 @@ module _ (t : List ℕ) (key : ℕ) where
     leads : (u : List ℕ) → Extends t u → get_or u (2 * h) 0 ≡ key → (get_or u (2 * h + 1) 0 ≡ 0 → ⊥) → looked u key ≡ get_or u (2 * h + 1) 0
     leads u x e f = w.same u x ∙ look_hit u key k h z f e
 
-    at : (m : ℕ) → spot.At h ≡ spot.At m → h ≡ m
-    unfolding spot_of
-    at m q = let y : some h ≡ some m = ap spot_of q in cc
+    at : (m : ℕ) → Some h ≡ Some m → h ≡ m
+    at m q = let y : Some h ≡ Some m = q in cc
 
-    pub free_slot : get_or t (2 * h + 1) 0 ≡ 0 → (m : ℕ) → spot.At h ≡ spot.At m → Slot t key m
+    pub free_slot : get_or t (2 * h + 1) 0 ≡ 0 → (m : ℕ) → Some h ≡ Some m → Slot t key m
     free_slot e m q = rw (← at m q) (record { below = w.below; held = λ f. absurd (f e); leads = leads })
 
-    pub own_slot : get_or t (2 * h) 0 ≡ key → (m : ℕ) → spot.At h ≡ spot.At m → Slot t key m
+    pub own_slot : get_or t (2 * h) 0 ≡ key → (m : ℕ) → Some h ≡ Some m → Slot t key m
     own_slot e m q = rw (← at m q) (record { below = w.below; held = λ f. e; leads = leads })
 
-pub no_slot : (t : List ℕ) (key m : ℕ) → spot.Nowhere ≡ spot.At m → Slot t key m
-unfolding spot_of
-no_slot t key m q = let y : none ≡ some m = ap spot_of q in absurd (let z : ◌≡◌ {A = ℕ} 0 1 = cc in omega arith)
+pub no_slot : (t : List ℕ) (key m : ℕ) → None ≡ Some m → Slot t key m
+no_slot t key m q = let y : None ≡ Some m = q in absurd (let z : ◌≡◌ {A = ℕ} 0 1 = cc in omega arith)
 
 -- The position is noted in the slot, or was there.
 module _ (t : List ℕ) (key n h : ℕ) (s : Slot t key h) where
@@ -154,21 +151,21 @@ module _ (t : List ℕ) (key n h : ℕ) (s : Slot t key h) where
 -- The Fields of the List at l: each is noted, or among those from p on.
 module _ (img : List ℕ) (l : ℕ) where
   pub record Told (t : List ℕ) (n p e : ℕ) : Type 0 where
-    pub each : (x : Name) (m : ℕ) → first_index (λ (f : Field). f.name) 0 x (fields_at 64 img l) ≡ some m
-        → (looked t (key_of x) ≡ suc m) ⊎ (first_index (λ (f : Field). f.name) n x (map (field_at img) (places_from (64 - n) img p e)) ≡ some m)
+    pub each : (x : Name) (m : ℕ) → first_index (λ (f : Field). f.name) 0 x (fields_at 64 img l) ≡ Some m
+        → (looked t (key_of x) ≡ suc m) ⊎ (first_index (λ (f : Field). f.name) n x (map (field_at img) (places_from (64 - n) img p e)) ≡ Some m)
 
   pub begin_fields : (t : List ℕ) → Told t 0 (inside img l) (after img l)
   unfolding fields_at
   begin_fields t = record { each = λ x m q. inr q }
 
   module _ (t : List ℕ) (n p e : ℕ) where
-    lost : {m : ℕ} → none ≡ some m → ⊥
+    lost : {m : ℕ} → None ≡ Some m → ⊥
     lost q = let z : ◌≡◌ {A = ℕ} 0 1 = cc in omega arith
 
-    ended : ((x : Name) → none ≡ first_index (λ (f : Field). f.name) n x (map (field_at img) (places_from (64 - n) img p e))) → Told t n p e → Held img t l
+    ended : ((x : Name) → None ≡ first_index (λ (f : Field). f.name) n x (map (field_at img) (places_from (64 - n) img p e))) → Told t n p e → Held img t l
     ended none_left o = record { at = λ x m q. either x m (o.each x m q) }
       where
-        either : (x : Name) (m : ℕ) → (looked t (key_of x) ≡ suc m) ⊎ (first_index (λ (f : Field). f.name) n x (map (field_at img) (places_from (64 - n) img p e)) ≡ some m) → looked t (key_of x) ≡ suc m
+        either : (x : Name) (m : ℕ) → (looked t (key_of x) ≡ suc m) ⊎ (first_index (λ (f : Field). f.name) n x (map (field_at img) (places_from (64 - n) img p e)) ≡ Some m) → looked t (key_of x) ≡ suc m
         either x m (inl a) = a
         either x m (inr b) = absurd (lost (none_left x ∙ b))
 
@@ -180,16 +177,16 @@ module _ (img : List ℕ) (l : ℕ) where
 
     module _ (u : List ℕ) (h : n < 64) (b : p < e) (o : Told t n p e) (w : Noted t u (key_of (name_in img p)) n) where
       now : (x : Name) (m : ℕ) → (c : Bool) → eq_name (name_in img p) x ≡ c
-          → first_index (λ (f : Field). f.name) n x (map (field_at img) (places_from (64 - n) img p e)) ≡ some m
-          → (looked u (key_of x) ≡ suc m) ⊎ (first_index (λ (f : Field). f.name) (n + 1) x (map (field_at img) (places_from (64 - (n + 1)) img (after img p) e)) ≡ some m)
+          → first_index (λ (f : Field). f.name) n x (map (field_at img) (places_from (64 - n) img p e)) ≡ Some m
+          → (looked u (key_of x) ≡ suc m) ⊎ (first_index (λ (f : Field). f.name) (n + 1) x (map (field_at img) (places_from (64 - (n + 1)) img (after img p) e)) ≡ Some m)
       now x m true c q =
-          let y : some n ≡ some m = field_here img x 64 n p e h b c ∙ q in
+          let y : Some n ≡ Some m = field_here img x 64 n p e h b c ∙ q in
           let k : n ≡ m = cc in
           inl (rw (← name_eq (name_in img p) x c, ← k) w.is)
       now x m false c q = inr (sym (field_next img x 64 n p e h b c) ∙ q)
 
-      either : (x : Name) (m : ℕ) → (looked t (key_of x) ≡ suc m) ⊎ (first_index (λ (f : Field). f.name) n x (map (field_at img) (places_from (64 - n) img p e)) ≡ some m)
-          → (looked u (key_of x) ≡ suc m) ⊎ (first_index (λ (f : Field). f.name) (n + 1) x (map (field_at img) (places_from (64 - (n + 1)) img (after img p) e)) ≡ some m)
+      either : (x : Name) (m : ℕ) → (looked t (key_of x) ≡ suc m) ⊎ (first_index (λ (f : Field). f.name) n x (map (field_at img) (places_from (64 - n) img p e)) ≡ Some m)
+          → (looked u (key_of x) ≡ suc m) ⊎ (first_index (λ (f : Field). f.name) (n + 1) x (map (field_at img) (places_from (64 - (n + 1)) img (after img p) e)) ≡ Some m)
       either x m (inl a) = inl (grows t u (key_of x) m w.extends 509 (key_of x % 509) a)
       either x m (inr q) = now x m (eq_name (name_in img p) x) refl q
 
@@ -214,11 +211,11 @@ module _ (img : List ℕ) where
 
   module _ (t : List ℕ) (x : Name) where
     same_differs : (o : Option Struct) (s : Struct) (l : List Struct) (a : ℕ) (m : Option ℕ) → first_index (λ (f : Field). f.name) 0 x s.fields ≡ m
-        → ((n : ℕ) → m ≡ some n → a ≡ n) → differs a (positions x l) ≡ false → differs a (positions x (kept o s l)) ≡ false
+        → ((n : ℕ) → m ≡ Some n → a ≡ n) → differs a (positions x l) ≡ false → differs a (positions x (kept o s l)) ≡ false
     unfolding kept positions with_position differs
-    same_differs (some r) s l a m q f h = h
-    same_differs none s l a none q f h = rw q h
-    same_differs none s l a (some n) q f h = rw (q, eq-eqb a n (f n refl)) h
+    same_differs (Some r) s l a m q f h = h
+    same_differs None s l a None q f h = rw q h
+    same_differs None s l a (Some n) q f h = rw (q, eq-eqb a n (f n refl)) h
 
     no_differs : (a : ℕ) (ps : List ℕ) → looked t (key_of x) ≡ suc a → AllHeld t ps → differs a (positions x (layouts (map (struct_at img) ps))) ≡ false
     unfolding layouts positions differs struct_at
@@ -229,11 +226,11 @@ module _ (img : List ℕ) where
         (no_differs a ps v (λ j b. h (suc j) (omega arith)))
 
     same_apart : (o : Option Struct) (s : Struct) (l : List Struct) (m : Option ℕ) → first_index (λ (f : Field). f.name) 0 x s.fields ≡ m
-        → ((n : ℕ) → m ≡ some n → differs n (positions x l) ≡ false) → apart (positions x l) ≡ false → apart (positions x (kept o s l)) ≡ false
+        → ((n : ℕ) → m ≡ Some n → differs n (positions x l) ≡ false) → apart (positions x l) ≡ false → apart (positions x (kept o s l)) ≡ false
     unfolding kept positions with_position apart
-    same_apart (some r) s l m q f h = h
-    same_apart none s l none q f h = rw q h
-    same_apart none s l (some n) q f h = rw q (f n refl)
+    same_apart (Some r) s l m q f h = h
+    same_apart None s l None q f h = rw q h
+    same_apart None s l (Some n) q f h = rw q (f n refl)
 
     no_apart : (ps : List ℕ) → AllHeld t ps → apart (positions x (layouts (map (struct_at img) ps))) ≡ false
     unfolding layouts positions apart struct_at

@@ -4,8 +4,8 @@
 --     functions-..     of the functions
 --     no_ambiguous     where no field is ambiguous there is no answer
 -- Assumes nothing.
+use Rattle.std.specs.Prelude.{None, Option, Some}
 use mathlib.Core.List.{List, [], ◌∷◌, map}
-use mathlib.Core.Option.{Option, none, some}
 use mathlib.Core.Bool.{Bool, true, false}
 use mathlib.Core.Path.{◌≡◌, refl, sym, ◌∙◌}
 use Prim.Native.Nat.{ℕ, ◌+◌, ◌-◌, ◌≤◌, ◌<◌}
@@ -22,96 +22,94 @@ use Rattle.rules.specs.Ambiguous.{is_ambiguous_lem, in_expr_lem, in_exprs, in_in
 use Rattle.before.specs.Old.{ambiguous_before}
 use Rattle.before.specs.Meant.{still_clear}
 use Rattle.tables.specs.Listed.{functions_in}
-use Rattle.ambiguous.specs.declared.Spot.{Spot}
-use Rattle.ambiguous.specs.declared.Spot.TheVariants as spot
-use Rattle.ambiguous.specs.Spots.{spot_of, unsure}
+use Rattle.ambiguous.specs.Spots.{unsure}
 use Rattle.ambiguous.proofs.Trees.{exprs_zero, exprs_end, exprs_more, inits_zero, inits_end, inits_more, stmts_zero, stmts_end, stmts_more}
 
-pub then_first : {a : Spot} {p : ℕ} {x : Option ℕ} (y : Option ℕ) → a ≡ spot.At p → spot_of a ≡ x → spot_of a ≡ or_else x y
-unfolding spot_of or_else
-then_first y q h = rw (← h, q)
+pub then_first : {p : ℕ} {x : Option ℕ} (y : Option ℕ) → Some p ≡ x → Some p ≡ or_else x y
+unfolding or_else
+then_first y h = rw (← h)
 
-pub then_second : (r : Spot) {a : Spot} {x y : Option ℕ} → a ≡ spot.Nowhere → spot_of a ≡ x → spot_of r ≡ y → spot_of r ≡ or_else x y
-unfolding spot_of or_else
+pub then_second : (r : Option ℕ) {a : Option ℕ} {x y : Option ℕ} → a ≡ None → a ≡ x → r ≡ y → r ≡ or_else x y
+unfolding or_else
 then_second r q h k = rw (← h, q) k
 
 pub else_else : (a b c : Option ℕ) → or_else (or_else a b) c ≡ or_else a (or_else b c)
 unfolding or_else
-else_else (some a) b c = refl
-else_else none b c = refl
+else_else (Some a) b c = refl
+else_else None b c = refl
 
 -- Three in turn.
 pub three : {t a r x : Option ℕ} (y z : Option ℕ) → t ≡ x → a ≡ or_else t y → r ≡ or_else a z → r ≡ or_else x (or_else y z)
 three {t} {a} {r} {x} y z p q w = w ∙ rw (q, p) (else_else x y z)
 
-pub else_none : (a : Option ℕ) → or_else a none ≡ a
+pub else_none : (a : Option ℕ) → or_else a None ≡ a
 unfolding or_else
-else_none (some a) = refl
-else_none none = refl
+else_none (Some a) = refl
+else_none None = refl
 
 module _ (C : Contract) (img : List ℕ) where
   module _ (f : ℕ → Expr) (k p e : ℕ) where
-    pub args_zero : k ≡ 0 → none ≡ in_exprs C (exprs_from k f img p e)
+    pub args_zero : k ≡ 0 → None ≡ in_exprs C (exprs_from k f img p e)
     unfolding in_exprs
     args_zero h = rw (exprs_zero f img k p e h)
 
-    pub args_end : e ≤ p → none ≡ in_exprs C (exprs_from k f img p e)
+    pub args_end : e ≤ p → None ≡ in_exprs C (exprs_from k f img p e)
     unfolding in_exprs
     args_end h = rw (exprs_end f img k p e h)
 
-    pub inits_none : k ≡ 0 → none ≡ in_inits_lem C (inits_from k f img p e)
+    pub inits_none : k ≡ 0 → None ≡ in_inits_lem C (inits_from k f img p e)
     unfolding in_inits_lem
     inits_none h = rw (inits_zero f img k p e h)
 
-    pub inits_over : e ≤ p → none ≡ in_inits_lem C (inits_from k f img p e)
+    pub inits_over : e ≤ p → None ≡ in_inits_lem C (inits_from k f img p e)
     unfolding in_inits_lem
     inits_over h = rw (inits_end f img k p e h)
 
-    module _ (h : k ≡ 0 → ⊥) (l : p < e) {a : Spot} where
-      pub args_here : {q : ℕ} → a ≡ spot.At q → spot_of a ≡ in_expr_lem C (f p) → spot_of a ≡ in_exprs C (exprs_from k f img p e)
+    module _ (h : k ≡ 0 → ⊥) (l : p < e) where
+      pub args_here : {q : ℕ} → Some q ≡ in_expr_lem C (f p) → Some q ≡ in_exprs C (exprs_from k f img p e)
       unfolding in_exprs
-      args_here q w = rw (exprs_more f img k p e h l) (then_first _ q w)
+      args_here w = rw (exprs_more f img k p e h l) (then_first _ w)
 
-      pub args_next : a ≡ spot.Nowhere → spot_of a ≡ in_expr_lem C (f p) → in_exprs C (exprs_from k f img p e) ≡ in_exprs C (exprs_from (k - 1) f img (after img p) e)
-      unfolding in_exprs spot_of or_else
+      pub args_next : {a : Option ℕ} → a ≡ None → a ≡ in_expr_lem C (f p) → in_exprs C (exprs_from k f img p e) ≡ in_exprs C (exprs_from (k - 1) f img (after img p) e)
+      unfolding in_exprs or_else
       args_next q w = rw (exprs_more f img k p e h l, ← w, q)
 
-      pub inits_here : {q : ℕ} → a ≡ spot.At q → spot_of a ≡ in_expr_lem C (f (second img p)) → spot_of a ≡ in_inits_lem C (inits_from k f img p e)
+      pub inits_here : {q : ℕ} → Some q ≡ in_expr_lem C (f (second img p)) → Some q ≡ in_inits_lem C (inits_from k f img p e)
       unfolding in_inits_lem
-      inits_here q w = rw (inits_more f img k p e h l) (then_first _ q w)
+      inits_here w = rw (inits_more f img k p e h l) (then_first _ w)
 
-      pub inits_next : a ≡ spot.Nowhere → spot_of a ≡ in_expr_lem C (f (second img p)) → in_inits_lem C (inits_from k f img p e) ≡ in_inits_lem C (inits_from (k - 1) f img (after img p) e)
-      unfolding in_inits_lem spot_of or_else
+      pub inits_next : {a : Option ℕ} → a ≡ None → a ≡ in_expr_lem C (f (second img p)) → in_inits_lem C (inits_from k f img p e) ≡ in_inits_lem C (inits_from (k - 1) f img (after img p) e)
+      unfolding in_inits_lem or_else
       inits_next q w = rw (inits_more f img k p e h l, ← w, q)
 
   module _ (f : ℕ → Stmt) (k p e : ℕ) where
-    pub body_zero : k ≡ 0 → none ≡ in_stmts C (stmts_from k f img p e)
+    pub body_zero : k ≡ 0 → None ≡ in_stmts C (stmts_from k f img p e)
     unfolding in_stmts
     body_zero h = rw (stmts_zero f img k p e h)
 
-    pub body_end : e ≤ p → none ≡ in_stmts C (stmts_from k f img p e)
+    pub body_end : e ≤ p → None ≡ in_stmts C (stmts_from k f img p e)
     unfolding in_stmts
     body_end h = rw (stmts_end f img k p e h)
 
-    module _ (h : k ≡ 0 → ⊥) (l : p < e) {a : Spot} where
-      pub body_here : {q : ℕ} → a ≡ spot.At q → spot_of a ≡ in_stmt_lem C (f p) → spot_of a ≡ in_stmts C (stmts_from k f img p e)
+    module _ (h : k ≡ 0 → ⊥) (l : p < e) where
+      pub body_here : {q : ℕ} → Some q ≡ in_stmt_lem C (f p) → Some q ≡ in_stmts C (stmts_from k f img p e)
       unfolding in_stmts
-      body_here q w = rw (stmts_more f img k p e h l) (then_first _ q w)
+      body_here w = rw (stmts_more f img k p e h l) (then_first _ w)
 
-      pub body_next : a ≡ spot.Nowhere → spot_of a ≡ in_stmt_lem C (f p) → in_stmts C (stmts_from k f img p e) ≡ in_stmts C (stmts_from (k - 1) f img (after img p) e)
-      unfolding in_stmts spot_of or_else
+      pub body_next : {a : Option ℕ} → a ≡ None → a ≡ in_stmt_lem C (f p) → in_stmts C (stmts_from k f img p e) ≡ in_stmts C (stmts_from (k - 1) f img (after img p) e)
+      unfolding in_stmts or_else
       body_next q w = rw (stmts_more f img k p e h l, ← w, q)
 
 -- Expressions that hold no other.
 module _ (C : Contract) (f : ℕ → Expr) (img : List ℕ) (i : ℕ) where
-  leaf : (a b c : Bool) → none ≡ in_expr_lem C (expr_as (pick a kInt (pick b kIdent (pick c kStorage kOther))) f img i)
+  leaf : (a b c : Bool) → None ≡ in_expr_lem C (expr_as (pick a kInt (pick b kIdent (pick c kStorage kOther))) f img i)
   unfolding in_expr_lem expr_as pick
   leaf true b c = refl
   leaf false true c = refl
   leaf false false true = refl
   leaf false false false = refl
 
-  pub leaf_kind : (k : ℕ) → (k ≡ 67 → ⊥) → (k ≡ 68 → ⊥) → (k ≡ 69 → ⊥) → (k ≡ 70 → ⊥) → (k ≡ 71 → ⊥) → none ≡ in_expr_lem C (expr_as (kind_of k) f img i)
+  pub leaf_kind : (k : ℕ) → (k ≡ 67 → ⊥) → (k ≡ 68 → ⊥) → (k ≡ 69 → ⊥) → (k ≡ 70 → ⊥) → (k ≡ 71 → ⊥) → None ≡ in_expr_lem C (expr_as (kind_of k) f img i)
   unfolding kind_of pick
   leaf_kind k a b c d e = simp (ne_eqb k 67 a, ne_eqb k 68 b, ne_eqb k 69 c, ne_eqb k 70 d, ne_eqb k 71 e) (leaf (eqb k 64) (eqb k 65) (eqb k 66))
 
@@ -125,17 +123,17 @@ module _ (img : List ℕ) where
   functions_all = refl
 
   module _ (i : ℕ) where
-    pub functions_over : length (functions_in img) ≤ i → none ≡ functions_from img i
+    pub functions_over : length (functions_in img) ≤ i → None ≡ functions_from img i
     unfolding functions_from in_functions
     functions_over h = rw (drop_of_length-le (functions_in img) h)
 
-    module _ (h : i < length (functions_in img)) {a : Spot} where
-      pub functions_here : {q : ℕ} → a ≡ spot.At q → spot_of a ≡ in_stmts (contract_at img) (body_at (stmt_at_lem 64 img) img (fifth img (get_or (functions_in img) i 0))) → spot_of a ≡ functions_from img i
+    module _ (h : i < length (functions_in img)) where
+      pub functions_here : {q : ℕ} → Some q ≡ in_stmts (contract_at img) (body_at (stmt_at_lem 64 img) img (fifth img (get_or (functions_in img) i 0))) → Some q ≡ functions_from img i
       unfolding functions_from in_functions function_at
-      functions_here q w = rw (drop-cons (functions_in img) i 0 h) (then_first _ q w)
+      functions_here w = rw (drop-cons (functions_in img) i 0 h) (then_first _ w)
 
-      pub functions_next : a ≡ spot.Nowhere → spot_of a ≡ in_stmts (contract_at img) (body_at (stmt_at_lem 64 img) img (fifth img (get_or (functions_in img) i 0))) → functions_from img i ≡ functions_from img (i + 1)
-      unfolding functions_from in_functions function_at spot_of or_else
+      pub functions_next : {a : Option ℕ} → a ≡ None → a ≡ in_stmts (contract_at img) (body_at (stmt_at_lem 64 img) img (fifth img (get_or (functions_in img) i 0))) → functions_from img i ≡ functions_from img (i + 1)
+      unfolding functions_from in_functions function_at or_else
       functions_next q w = rw (drop-cons (functions_in img) i 0 h, ← w, q, add-one)
 
 -- Where no field is ambiguous there is no answer.
@@ -148,7 +146,7 @@ module _ (C : Contract) (clear : (x : Name) → unsure C x ≡ false) where
   mutual
     unfolding in_expr_lem in_exprs in_inits_lem or_else pick
 
-    no_expr : (e : Expr) → in_expr_lem C e ≡ none
+    no_expr : (e : Expr) → in_expr_lem C e ≡ None
     no_expr (Expr.no-expr p) = refl
     no_expr (Expr.int p v) = refl
     no_expr (Expr.ident p x) = refl
@@ -159,18 +157,18 @@ module _ (C : Contract) (clear : (x : Name) → unsure C x ≡ false) where
     no_expr (Expr.binary p a o b) = rw (no_expr a, no_expr b)
     no_expr (Expr.call p f es) = no_exprs es
 
-    no_exprs : (es : Exprs) → in_exprs C es ≡ none
+    no_exprs : (es : Exprs) → in_exprs C es ≡ None
     no_exprs Exprs.none = refl
     no_exprs (Exprs.more e es) = rw (no_expr e, no_exprs es)
 
-    no_inits : (is : Inits) → in_inits_lem C is ≡ none
+    no_inits : (is : Inits) → in_inits_lem C is ≡ None
     no_inits Inits.no-init = refl
     no_inits (Inits.init p x e is) = rw (no_expr e, no_inits is)
 
   mutual
     unfolding in_stmt_lem in_stmts or_else
 
-    no_stmt : (s : Stmt) → in_stmt_lem C s ≡ none
+    no_stmt : (s : Stmt) → in_stmt_lem C s ≡ None
     no_stmt (Stmt.no-stmt p) = refl
     no_stmt (Stmt.let-in p x e) = no_expr e
     no_stmt (Stmt.constrain p e) = no_expr e
@@ -185,15 +183,15 @@ module _ (C : Contract) (clear : (x : Name) → unsure C x ≡ false) where
     no_stmt (Stmt.emits p x es) = no_exprs es
     no_stmt (Stmt.just p e) = no_expr e
 
-    no_stmts : (ss : Stmts) → in_stmts C ss ≡ none
+    no_stmts : (ss : Stmts) → in_stmts C ss ≡ None
     no_stmts Stmts.none = refl
     no_stmts (Stmts.more s ss) = rw (no_stmt s, no_stmts ss)
 
-  no_functions : (fs : List Function) → in_functions C fs ≡ none
+  no_functions : (fs : List Function) → in_functions C fs ≡ None
   unfolding in_functions or_else
   no_functions [] = refl
   no_functions (f ∷ fs) = rw (no_stmts f.body, no_functions fs)
 
-  pub no_ambiguous : none ≡ first_ambiguous_lem C
+  pub no_ambiguous : None ≡ first_ambiguous_lem C
   unfolding first_ambiguous_lem
   no_ambiguous = sym (no_functions C.functions)

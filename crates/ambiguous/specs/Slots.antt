@@ -1,7 +1,6 @@
 -- A table from the keys of names to positions.
 -- Assumes nothing.
-use Rattle.std.specs.Prelude.{List, ◌≡◌, ℕ, zero, suc, ◌+◌, ◌*◌, ◌%◌, ◌<◌, eqb, get_or}
-use Rattle.std.proofs.Math.Option.{some}
+use Rattle.std.specs.Prelude.{List, ◌≡◌, ℕ, zero, suc, ◌+◌, ◌*◌, ◌%◌, ◌<◌, eqb, get_or, Some}
 use Rattle.rules.specs.Bytes.{pick, Name}
 use Rattle.rules.specs.Tables.{first_index}
 use Rattle.rules.specs.Tree.{Field}
@@ -35,4 +34,4 @@ pub record Noted (t u : List ℕ) (key n : ℕ) : Type 0 where
 
 -- 01: For 30: every field of the List at l has its first position where the table says.
 pub record Held (img t : List ℕ) (l : ℕ) : Type 0 where
-  pub at : (x : Name) (n : ℕ) → first_index (λ (f : Field). f.name) 0 x (fields_at 64 img l) ≡ some n → looked t (key_of x) ≡ suc n
+  pub at : (x : Name) (n : ℕ) → first_index (λ (f : Field). f.name) 0 x (fields_at 64 img l) ≡ Some n → looked t (key_of x) ≡ suc n

@@ -2,34 +2,31 @@
 //
 // A table from the key of a name to a position, in 509 slots (a prime, so that the whole key counts): from the key's own slot on, the first
 // that is free or has the key. A slot is two cells: the key, and one more than the position; 0 where the slot is free.
-ghost use Rattle.std.specs.Prelude.{true, false, ◌≡◌, ℕ, ◌<◌, ◌≤◌, length, get_or};
+ghost use Rattle.std.specs.Prelude.{true, false, ◌≡◌, ℕ, ◌<◌, ◌≤◌, length, get_or, None, Some};
 ghost use Rattle.rules.specs.Bytes.{Name};
 ghost use Rattle.rules.specs.Read.{contract_at};
 ghost use Rattle.tables.specs.Listed.{Tabled};
-ghost use Rattle.ambiguous.specs.declared.Spot.TheVariants as spot;
 ghost use Rattle.ambiguous.specs.Spots.{unsure};
 ghost use Rattle.ambiguous.specs.Slots.{Slot, Noted, Held, Extends};
 
-use crate::Spot;
-
 // The slot of a key, if there is one or one is free.
-fn slot_of(seen: &[usize], key: usize) -> Spot
+fn slot_of(seen: &[usize], key: usize) -> Option<usize>
     requires { 1018 ≤ length seen.now }
-    ensures { (h : ℕ) → result ≡ spot.At h → Slot seen.now key h }
+    ensures { (h : ℕ) → result ≡ Some h → Slot seen.now key h }
 {
     let mut h = key % 509;
     let mut left: usize = 509;
     while left != 0 {
         if seen[2 * h + 1] == 0 {
-            return Spot::At(h);
+            return Some(h);
         }
         if seen[2 * h] == key {
-            return Spot::At(h);
+            return Some(h);
         }
         h = (h + 1) % 509;
         left -= 1;
     }
-    Spot::Nowhere
+    None
 }
 
 // Notes that a field whose name has this key stands at position n. False where one stands elsewhere, or no slot is free.
@@ -39,7 +36,7 @@ fn note(seen: &mut [usize], key: usize, n: usize) -> bool
 {
     let s = slot_of(seen, key);
     match s {
-        Spot::At(h) => {
+        Some(h) => {
             let v = seen[2 * h + 1];
             if v == 0 {
                 seen[2 * h] = key;
@@ -49,7 +46,7 @@ fn note(seen: &mut [usize], key: usize, n: usize) -> bool
                 v == n + 1
             }
         }
-        Spot::Nowhere => false,
+        None => false,
     }
 }
 

@@ -4,36 +4,16 @@ ghost use Rattle.rules.specs.Bytes.{name_at};
 ghost use Rattle.rules.specs.Read.{second, contract_at};
 ghost use Rattle.rules.specs.Ambiguous.{is_ambiguous_lem};
 ghost use Rattle.notes.specs.Notes.{Known};
-ghost use Rattle.rules.specs.Tables.{or_else};
 ghost use Rattle.tables.specs.Listed.{Tabled};
-ghost use Rattle.fields.specs.Spots.{spot_of};
 ghost use Rattle.ambiguous.specs.Spots.{clash, unsure};
 
-use fields::Spot;
-use notes::Note;
-
 // Two positions that differ.
-fn differ(a: Spot, b: Spot) -> bool
-    ensures { result ≡ clash (spot_of a) (spot_of b) }
+fn differ(a: Option<usize>, b: Option<usize>) -> bool
+    ensures { result ≡ clash a b }
 {
-    match a {
-        Spot::At(i) => {
-            match b {
-                Spot::At(j) => i != j,
-                Spot::Nowhere => false,
-            }
-        }
-        Spot::Nowhere => false,
-    }
-}
-
-// The first answer, if there is one.
-fn or_else(a: Spot, b: Spot) -> Spot
-    ensures { spot_of result ≡ or_else (spot_of a) (spot_of b) }
-{
-    match a {
-        Spot::At(_) => a,
-        Spot::Nowhere => b,
+    match (a, b) {
+        (Some(i), Some(j)) => i != j,
+        _ => false,
     }
 }
 
@@ -44,14 +24,14 @@ pub fn is_ambiguous(img: &[u8], tables: &[usize], x: usize) -> bool
 {
     let name = records::name(img, x);
     let n = tables::struct_count(tables);
-    let mut first = Spot::Nowhere;
+    let mut first = None;
     let mut i = 0;
     while i < n {
         let here = fields::position_at(img, tables, i, name);
         if differ(first, here) {
             return true;
         }
-        first = or_else(first, here);
+        first = first.or(here);
         i += 1;
     }
     false
@@ -68,9 +48,8 @@ pub fn is_ambiguous_at(
     requires { Known img.now tables.now notes.now × (x ≡ second img.now at) }
     ensures { result ≡ is_ambiguous_lem (contract_at img.now) at (name_at img.now x) }
 {
-    let n = notes::get(notes, at);
-    match n {
-        Note::At(_) => false,
-        Note::Nothing => is_ambiguous(img, tables, x),
+    match notes::get(notes, at) {
+        Some(_) => false,
+        None => is_ambiguous(img, tables, x),
     }
 }

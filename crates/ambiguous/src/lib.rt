@@ -7,17 +7,9 @@ ghost use Rattle.rules.specs.Tables.{or_else};
 ghost use Rattle.rules.specs.Read.{expr_at, expr_as, exprs_from, inits_from, kAccess, stmt_at_lem, stmt_as, stmt_kind_of, body_at, sIf, sWhile, sFor, sReturn, contract_at};
 ghost use Rattle.rules.specs.Ambiguous.{in_expr_lem, in_exprs, in_inits_lem, in_stmt_lem, in_stmts, first_ambiguous_lem};
 ghost use Rattle.notes.specs.Notes.{Known};
-ghost use Rattle.ambiguous.specs.Spots.{spot_of};
 
 mod agree;
 mod apart;
-
-// The place of an access (in agree.rt: the slot of a key).
-#[derive(Clone, Copy)]
-pub enum Spot {
-    At(usize),
-    Nowhere,
-}
 
 // The place of a record's second part.
 fn second(img: &[u8], at: usize) -> usize
@@ -27,20 +19,26 @@ fn second(img: &[u8], at: usize) -> usize
 }
 
 // An access stands before its base.
-#[cycle(in_access_in_args_in_expr_in_inits_in_two)]
-fn in_access(img: &[u8], tables: &[usize], notes: &[u8; notes::SIZE], d: usize, at: usize) -> Spot
+#[cycle(in_expr)]
+fn in_access(
+    img: &[u8],
+    tables: &[usize],
+    notes: &[u8; notes::SIZE],
+    d: usize,
+    at: usize,
+) -> Option<usize>
     requires { Known img.now tables.now notes.now }
-    ensures { spot_of result ≡ in_expr_lem (contract_at img.now) (expr_as kAccess (expr_at d img.now) img.now at) }
+    ensures { result ≡ in_expr_lem (contract_at img.now) (expr_as kAccess (expr_at d img.now) img.now at) }
 {
     let base = records::body(img, at);
     if apart::is_ambiguous_at(img, tables, notes, at, records::past(img, base)) {
-        return Spot::At(at);
+        return Some(at);
     }
     in_expr(img, tables, notes, d, base)
 }
 
 // The expressions at a and at b.
-#[cycle(in_access_in_args_in_expr_in_inits_in_two)]
+#[cycle(in_expr)]
 fn in_two(
     img: &[u8],
     tables: &[usize],
@@ -48,19 +46,18 @@ fn in_two(
     d: usize,
     a: usize,
     b: usize,
-) -> Spot
+) -> Option<usize>
     requires { Known img.now tables.now notes.now }
-    ensures { spot_of result ≡ or_else (in_expr_lem (contract_at img.now) (expr_at d img.now a)) (in_expr_lem (contract_at img.now) (expr_at d img.now b)) }
+    ensures { result ≡ or_else (in_expr_lem (contract_at img.now) (expr_at d img.now a)) (in_expr_lem (contract_at img.now) (expr_at d img.now b)) }
 {
-    let first = in_expr(img, tables, notes, d, a);
-    match first {
-        Spot::At(_) => first,
-        Spot::Nowhere => in_expr(img, tables, notes, d, b),
+    match in_expr(img, tables, notes, d, a) {
+        Some(place) => Some(place),
+        None => in_expr(img, tables, notes, d, b),
     }
 }
 
 // The expressions of the List at l, `most` of them at most.
-#[cycle(in_access_in_args_in_expr_in_inits_in_two)]
+#[cycle(in_expr)]
 fn in_args(
     img: &[u8],
     tables: &[usize],
@@ -68,60 +65,62 @@ fn in_args(
     d: usize,
     l: usize,
     most: usize,
-) -> Spot
+) -> Option<usize>
     requires { Known img.now tables.now notes.now }
-    ensures { spot_of result ≡ in_exprs (contract_at img.now) (exprs_from most (expr_at d img.now) img.now (inside img.now l) (after img.now l)) }
+    ensures { result ≡ in_exprs (contract_at img.now) (exprs_from most (expr_at d img.now) img.now (inside img.now l) (after img.now l)) }
 {
     let end = records::past(img, l);
     let mut p = records::body(img, l);
     let mut k = most;
     while k != 0 && p < end {
-        let a = in_expr(img, tables, notes, d, p);
-        match a {
-            Spot::At(_) => {
-                return a;
-            }
-            Spot::Nowhere => {
-                p = records::past(img, p);
-                k -= 1;
-            }
+        if let Some(place) = in_expr(img, tables, notes, d, p) {
+            return Some(place);
         }
+        p = records::past(img, p);
+        k -= 1;
     }
-    Spot::Nowhere
+    None
 }
 
 // The values of the List of Inits at l.
-#[cycle(in_access_in_args_in_expr_in_inits_in_two)]
-fn in_inits(img: &[u8], tables: &[usize], notes: &[u8; notes::SIZE], d: usize, l: usize) -> Spot
+#[cycle(in_expr)]
+fn in_inits(
+    img: &[u8],
+    tables: &[usize],
+    notes: &[u8; notes::SIZE],
+    d: usize,
+    l: usize,
+) -> Option<usize>
     requires { Known img.now tables.now notes.now }
-    ensures { spot_of result ≡ in_inits_lem (contract_at img.now) (inits_from 64 (expr_at d img.now) img.now (inside img.now l) (after img.now l)) }
+    ensures { result ≡ in_inits_lem (contract_at img.now) (inits_from 64 (expr_at d img.now) img.now (inside img.now l) (after img.now l)) }
 {
     let end = records::past(img, l);
     let mut p = records::body(img, l);
     let mut k: usize = 64;
     while k != 0 && p < end {
-        let a = in_expr(img, tables, notes, d, second(img, p));
-        match a {
-            Spot::At(_) => {
-                return a;
-            }
-            Spot::Nowhere => {
-                p = records::past(img, p);
-                k -= 1;
-            }
+        if let Some(place) = in_expr(img, tables, notes, d, second(img, p)) {
+            return Some(place);
         }
+        p = records::past(img, p);
+        k -= 1;
     }
-    Spot::Nowhere
+    None
 }
 
 // The expression at `at`, d records deep at most.
-#[cycle(in_access_in_args_in_expr_in_inits_in_two)]
-fn in_expr(img: &[u8], tables: &[usize], notes: &[u8; notes::SIZE], d: usize, at: usize) -> Spot
+#[cycle(in_expr)]
+fn in_expr(
+    img: &[u8],
+    tables: &[usize],
+    notes: &[u8; notes::SIZE],
+    d: usize,
+    at: usize,
+) -> Option<usize>
     requires { Known img.now tables.now notes.now }
-    ensures { spot_of result ≡ in_expr_lem (contract_at img.now) (expr_at d img.now at) }
+    ensures { result ≡ in_expr_lem (contract_at img.now) (expr_at d img.now at) }
 {
     if d == 0 {
-        return Spot::Nowhere;
+        return None;
     }
     let k = records::kind(img, at);
     match k {
@@ -137,20 +136,26 @@ fn in_expr(img: &[u8], tables: &[usize], notes: &[u8; notes::SIZE], d: usize, at
             records::past(img, second(img, at)),
         ),
         71 => in_args(img, tables, notes, d - 1, second(img, at), 64),
-        _ => Spot::Nowhere,
+        _ => None,
     }
 }
 
 // A Return's value, if it has one.
-fn in_return(img: &[u8], tables: &[usize], notes: &[u8; notes::SIZE], d: usize, at: usize) -> Spot
+fn in_return(
+    img: &[u8],
+    tables: &[usize],
+    notes: &[u8; notes::SIZE],
+    d: usize,
+    at: usize,
+) -> Option<usize>
     requires { Known img.now tables.now notes.now }
-    ensures { spot_of result ≡ in_stmt_lem (contract_at img.now) (stmt_as sReturn (expr_at d img.now) (stmt_at_lem d img.now) img.now at) }
+    ensures { result ≡ in_stmt_lem (contract_at img.now) (stmt_as sReturn (expr_at d img.now) (stmt_at_lem d img.now) img.now at) }
 {
     let value = records::body(img, at);
     if value < records::past(img, at) {
         in_expr(img, tables, notes, d, value)
     } else {
-        Spot::Nowhere
+        None
     }
 }
 
@@ -162,9 +167,9 @@ fn in_simple(
     d: usize,
     at: usize,
     k: u64,
-) -> Spot
+) -> Option<usize>
     requires { Known img.now tables.now notes.now × ((k ≡ 37 → ⊥) × ((k ≡ 38 → ⊥) × (k ≡ 39 → ⊥))) }
-    ensures { spot_of result ≡ in_stmt_lem (contract_at img.now) (stmt_as (stmt_kind_of k) (expr_at d img.now) (stmt_at_lem d img.now) img.now at) }
+    ensures { result ≡ in_stmt_lem (contract_at img.now) (stmt_as (stmt_kind_of k) (expr_at d img.now) (stmt_at_lem d img.now) img.now at) }
 {
     let first = records::body(img, at);
     let next = records::past(img, first);
@@ -177,58 +182,65 @@ fn in_simple(
         40 => in_return(img, tables, notes, d, at),
         41 => in_args(img, tables, notes, d, next, 65536),
         42 => in_expr(img, tables, notes, d, first),
-        _ => Spot::Nowhere,
+        _ => None,
     }
 }
 
 // The statements of the List at l.
-#[cycle(in_body_in_for_in_if_in_stmt_in_while_then_body)]
-fn in_body(img: &[u8], tables: &[usize], notes: &[u8; notes::SIZE], d: usize, l: usize) -> Spot
+#[cycle(in_stmt)]
+fn in_body(
+    img: &[u8],
+    tables: &[usize],
+    notes: &[u8; notes::SIZE],
+    d: usize,
+    l: usize,
+) -> Option<usize>
     requires { Known img.now tables.now notes.now }
-    ensures { spot_of result ≡ in_stmts (contract_at img.now) (body_at (stmt_at_lem d img.now) img.now l) }
+    ensures { result ≡ in_stmts (contract_at img.now) (body_at (stmt_at_lem d img.now) img.now l) }
 {
     let end = records::past(img, l);
     let mut p = records::body(img, l);
     let mut k: usize = 65536;
     while k != 0 && p < end {
-        let a = in_stmt(img, tables, notes, d, p);
-        match a {
-            Spot::At(_) => {
-                return a;
-            }
-            Spot::Nowhere => {
-                p = records::past(img, p);
-                k -= 1;
-            }
+        if let Some(place) = in_stmt(img, tables, notes, d, p) {
+            return Some(place);
         }
+        p = records::past(img, p);
+        k -= 1;
     }
-    Spot::Nowhere
+    None
 }
 
 // The same, behind what came first.
-#[cycle(in_body_in_for_in_if_in_stmt_in_while_then_body)]
+#[cycle(in_stmt)]
 fn then_body(
     img: &[u8],
     tables: &[usize],
     notes: &[u8; notes::SIZE],
     d: usize,
-    first: Spot,
+    first: Option<usize>,
     l: usize,
-) -> Spot
+) -> Option<usize>
     requires { Known img.now tables.now notes.now }
-    ensures { spot_of result ≡ or_else (spot_of first) (in_stmts (contract_at img.now) (body_at (stmt_at_lem d img.now) img.now l)) }
+    ensures { result ≡ or_else first (in_stmts (contract_at img.now) (body_at (stmt_at_lem d img.now) img.now l)) }
 {
     match first {
-        Spot::At(_) => first,
-        Spot::Nowhere => in_body(img, tables, notes, d, l),
+        Some(place) => Some(place),
+        None => in_body(img, tables, notes, d, l),
     }
 }
 
 // `then` before `else`.
-#[cycle(in_body_in_for_in_if_in_stmt_in_while_then_body)]
-fn in_if(img: &[u8], tables: &[usize], notes: &[u8; notes::SIZE], d: usize, at: usize) -> Spot
+#[cycle(in_stmt)]
+fn in_if(
+    img: &[u8],
+    tables: &[usize],
+    notes: &[u8; notes::SIZE],
+    d: usize,
+    at: usize,
+) -> Option<usize>
     requires { Known img.now tables.now notes.now }
-    ensures { spot_of result ≡ in_stmt_lem (contract_at img.now) (stmt_as sIf (expr_at d img.now) (stmt_at_lem d img.now) img.now at) }
+    ensures { result ≡ in_stmt_lem (contract_at img.now) (stmt_as sIf (expr_at d img.now) (stmt_at_lem d img.now) img.now at) }
 {
     let test = records::body(img, at);
     let then = records::past(img, test);
@@ -242,20 +254,32 @@ fn in_if(img: &[u8], tables: &[usize], notes: &[u8; notes::SIZE], d: usize, at: 
     }
 }
 
-#[cycle(in_body_in_for_in_if_in_stmt_in_while_then_body)]
-fn in_while(img: &[u8], tables: &[usize], notes: &[u8; notes::SIZE], d: usize, at: usize) -> Spot
+#[cycle(in_stmt)]
+fn in_while(
+    img: &[u8],
+    tables: &[usize],
+    notes: &[u8; notes::SIZE],
+    d: usize,
+    at: usize,
+) -> Option<usize>
     requires { Known img.now tables.now notes.now }
-    ensures { spot_of result ≡ in_stmt_lem (contract_at img.now) (stmt_as sWhile (expr_at d img.now) (stmt_at_lem d img.now) img.now at) }
+    ensures { result ≡ in_stmt_lem (contract_at img.now) (stmt_as sWhile (expr_at d img.now) (stmt_at_lem d img.now) img.now at) }
 {
     let test = records::body(img, at);
     let t = in_expr(img, tables, notes, d, test);
     then_body(img, tables, notes, d, t, records::past(img, test))
 }
 
-#[cycle(in_body_in_for_in_if_in_stmt_in_while_then_body)]
-fn in_for(img: &[u8], tables: &[usize], notes: &[u8; notes::SIZE], d: usize, at: usize) -> Spot
+#[cycle(in_stmt)]
+fn in_for(
+    img: &[u8],
+    tables: &[usize],
+    notes: &[u8; notes::SIZE],
+    d: usize,
+    at: usize,
+) -> Option<usize>
     requires { Known img.now tables.now notes.now }
-    ensures { spot_of result ≡ in_stmt_lem (contract_at img.now) (stmt_as sFor (expr_at d img.now) (stmt_at_lem d img.now) img.now at) }
+    ensures { result ≡ in_stmt_lem (contract_at img.now) (stmt_as sFor (expr_at d img.now) (stmt_at_lem d img.now) img.now at) }
 {
     let from = second(img, at);
     let to = records::past(img, from);
@@ -264,13 +288,19 @@ fn in_for(img: &[u8], tables: &[usize], notes: &[u8; notes::SIZE], d: usize, at:
 }
 
 // The statement at `at`, d records deep at most.
-#[cycle(in_body_in_for_in_if_in_stmt_in_while_then_body)]
-fn in_stmt(img: &[u8], tables: &[usize], notes: &[u8; notes::SIZE], d: usize, at: usize) -> Spot
+#[cycle(in_stmt)]
+fn in_stmt(
+    img: &[u8],
+    tables: &[usize],
+    notes: &[u8; notes::SIZE],
+    d: usize,
+    at: usize,
+) -> Option<usize>
     requires { Known img.now tables.now notes.now }
-    ensures { spot_of result ≡ in_stmt_lem (contract_at img.now) (stmt_at_lem d img.now at) }
+    ensures { result ≡ in_stmt_lem (contract_at img.now) (stmt_at_lem d img.now at) }
 {
     if d == 0 {
-        return Spot::Nowhere;
+        return None;
     }
     let k = records::kind(img, at);
     match k {
@@ -282,26 +312,21 @@ fn in_stmt(img: &[u8], tables: &[usize], notes: &[u8; notes::SIZE], d: usize, at
 }
 
 // Every function, called or not.
-fn in_functions(img: &[u8], tables: &[usize], notes: &[u8; notes::SIZE]) -> Spot
+fn in_functions(img: &[u8], tables: &[usize], notes: &[u8; notes::SIZE]) -> Option<usize>
     requires { Known img.now tables.now notes.now }
-    ensures { spot_of result ≡ first_ambiguous_lem (contract_at img.now) }
+    ensures { result ≡ first_ambiguous_lem (contract_at img.now) }
 {
     let n = tables::function_count(tables);
     let mut i = 0;
     while i < n {
         let params = second(img, tables::function_place(tables, i));
         let flag = records::past(img, records::past(img, params));
-        let a = in_body(img, tables, notes, 64, records::past(img, flag));
-        match a {
-            Spot::At(_) => {
-                return a;
-            }
-            Spot::Nowhere => {
-                i += 1;
-            }
+        if let Some(place) = in_body(img, tables, notes, 64, records::past(img, flag)) {
+            return Some(place);
         }
+        i += 1;
     }
-    Spot::Nowhere
+    None
 }
 
 // 01: row 30, place. Where no field has two positions the tree is not walked. What is lent serves as a table, whatever it held.
@@ -310,15 +335,15 @@ pub fn first_ambiguous(
     img: &[u8],
     tables: &[usize],
     notes: &[u8; notes::SIZE],
-) -> Spot
+) -> Option<usize>
     requires { Known img.now tables.now notes.now }
-    ensures { spot_of result ≡ first_ambiguous_lem (contract_at img.now) }
+    ensures { result ≡ first_ambiguous_lem (contract_at img.now) }
 {
     if notes::all_noted(notes) {
-        return Spot::Nowhere;
+        return None;
     }
     if agree::all_agree(seen, img, tables) {
-        return Spot::Nowhere;
+        return None;
     }
     in_functions(img, tables, notes)
 }

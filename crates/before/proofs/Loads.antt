@@ -3,7 +3,7 @@
 -- Assumes nothing.
 use Rattle.std.specs.Prelude.{◌≡◌, List, ℕ}
 use Rattle.rules.specs.Meant.{accesses}
-use Rattle.rules.specs.declared.Seen.TheVariants.{Sound}
+use Rattle.rules.specs.Seen.{Sound}
 use Rattle.rules.specs.Check.{check_of}
 use Rattle.rules.specs.Read.{contract_at}
 use Rattle.bounds.specs.Held.{Each}

@@ -1,10 +1,9 @@
 -- Where a field stands: where all structs agree on it, it stands in each as in the first.
 -- Assumes nothing.
-use Rattle.std.specs.Prelude.{◌≡◌, Bool, not, ℕ, suc, eqb}
+use Rattle.std.specs.Prelude.{◌≡◌, Bool, not, ℕ, suc, eqb, None, Option, Some}
 use Rattle.std.proofs.Math.Path.{refl, subst}
 use Rattle.std.proofs.Common.{sym, ap, ◌∙◌, eqb-true}
 use Rattle.std.proofs.Math.Bool.{true, false}
-use Rattle.std.proofs.Math.Option.{Option, none, some}
 use mathlib.Core.List.{List, [], ◌∷◌}
 use Rattle.rules.specs.Bytes.{pick, Name, eq_name, ◌or◌}
 use Rattle.rules.specs.Tables.{or_else, last, first_index}
@@ -16,20 +15,20 @@ use Rattle.records.specs.Names.{name_eq, never}
 use Rattle.bounds.specs.Held.{Opt, Each}
 
 -- Something is not nothing.
-pub some_none : {A B : Type 0} (a : A) → some a ≡ none → B
+pub some_none : {A B : Type 0} (a : A) → Some a ≡ None → B
 some_none a h = never (ap test (sym h))
   where
     test : {A : Type 0} → Option A → Bool
-    test none = false
-    test (some a) = true
+    test None = false
+    test (Some a) = true
 
 -- What was found is one thing.
-pub some_same : {A : Type 0} (a b : A) → some a ≡ some b → a ≡ b
+pub some_same : {A : Type 0} (a b : A) → Some a ≡ Some b → a ≡ b
 some_same a b h = ap (or-this a) h
   where
     or-this : {A : Type 0} → A → Option A → A
-    or-this z none = z
-    or-this z (some a) = a
+    or-this z None = z
+    or-this z (Some a) = a
 
 -- No number of the list is another.
 differs_none : (i : ℕ) (l : List ℕ) → differs i l ≡ false → Each (λ j. i ≡ j) l
@@ -51,51 +50,51 @@ module _ (P : ℕ → Type 0) (x : Name) where
   -- What holds of every position holds of those behind the first struct,
   less : (o : Option ℕ) (l : List ℕ) → Each P (with_position o l) → Each P l
   unfolding with_position
-  less (some i) l h = h.1
-  less none l h = h
+  less (Some i) l h = h.1
+  less None l h = h
 
   -- of the first,
   first : (o : Option ℕ) (l : List ℕ) → Each P (with_position o l) → Opt P o
   unfolding with_position
-  first (some i) l h = h.0
-  first none l h = tt
+  first (Some i) l h = h.0
+  first None l h = tt
 
   -- of those behind one that is replaced or kept,
   rest : (o : Option Struct) (s : Struct) (l : List Struct) → Each P (positions x (kept o s l)) → Each P (positions x l)
   unfolding kept positions
-  rest (some t) s l h = h
-  rest none s l h = less _ _ h
+  rest (Some t) s l h = h
+  rest None s l h = less _ _ h
 
   -- of one that is kept;
-  kept_one : (o : Option Struct) → o ≡ none → (s : Struct) (l : List Struct) → Each P (positions x (kept o s l)) → Opt P (first_index field_name 0 x s.fields)
+  kept_one : (o : Option Struct) → o ≡ None → (s : Struct) (l : List Struct) → Each P (positions x (kept o s l)) → Opt P (first_index field_name 0 x s.fields)
   unfolding kept positions
-  kept_one (some t) e s l h = some_none t e
-  kept_one none e s l h = first _ _ h
+  kept_one (Some t) e s l h = some_none t e
+  kept_one None e s l h = first _ _ h
 
   -- so of the struct of a name, as last declared.
-  pub of_declared : (y : Name) (ss : List Struct) → Each P (positions x (layouts ss)) → (d : Struct) → last struct_name y ss ≡ some d → Opt P (first_index field_name 0 x d.fields)
+  pub of_declared : (y : Name) (ss : List Struct) → Each P (positions x (layouts ss)) → (d : Struct) → last struct_name y ss ≡ Some d → Opt P (first_index field_name 0 x d.fields)
   unfolding layouts last or_else pick
   of_declared y [] h d e = some_none d (sym e)
   of_declared y (s ∷ ss) h d e = by (last struct_name y ss) refl e (of_declared y ss (rest _ s (layouts ss) h) d)
     where
-      here : (b : Bool) → eq_name s.name y ≡ b → last struct_name y ss ≡ none → pick b (some s) none ≡ some d → Opt P (first_index field_name 0 x d.fields)
+      here : (b : Bool) → eq_name s.name y ≡ b → last struct_name y ss ≡ None → pick b (Some s) None ≡ Some d → Opt P (first_index field_name 0 x d.fields)
       here true n z g =
           subst (λ (t : Struct). Opt P (first_index field_name 0 x t.fields)) (some_same s d g)
-          (kept_one (last struct_name s.name ss) (subst (λ z. last struct_name z ss ≡ none) (sym (name_eq s.name y n)) z) s (layouts ss) h)
+          (kept_one (last struct_name s.name ss) (subst (λ z. last struct_name z ss ≡ None) (sym (name_eq s.name y n)) z) s (layouts ss) h)
       here false n z g = some_none d (sym g)
 
-      by : (o : Option Struct) → last struct_name y ss ≡ o → or_else o (pick (eq_name s.name y) (some s) none) ≡ some d
-          → (last struct_name y ss ≡ some d → Opt P (first_index field_name 0 x d.fields)) → Opt P (first_index field_name 0 x d.fields)
-      by (some t) q g r = r (q ∙ g)
-      by none q g r = here (eq_name s.name y) refl q g
+      by : (o : Option Struct) → last struct_name y ss ≡ o → or_else o (pick (eq_name s.name y) (Some s) None) ≡ Some d
+          → (last struct_name y ss ≡ Some d → Opt P (first_index field_name 0 x d.fields)) → Opt P (first_index field_name 0 x d.fields)
+      by (Some t) q g r = r (q ∙ g)
+      by None q g r = here (eq_name s.name y) refl q g
 
 -- A field that is nowhere first is nowhere last.
-pub first_none : (i : ℕ) (x : Name) (l : List Field) → first_index field_name i x l ≡ none → last field_name x l ≡ none
+pub first_none : (i : ℕ) (x : Name) (l : List Field) → first_index field_name i x l ≡ None → last field_name x l ≡ None
 unfolding first_index last or_else pick
 first_none i x [] h = refl
 first_none i x (f ∷ l) h = by (eq_name f.name x) h (first_none (suc i) x l)
   where
-    by : (b : Bool) → or_else (pick b (some i) none) (first_index field_name (suc i) x l) ≡ none
-        → (first_index field_name (suc i) x l ≡ none → last field_name x l ≡ none) → or_else (last field_name x l) (pick b (some f) none) ≡ none
+    by : (b : Bool) → or_else (pick b (Some i) None) (first_index field_name (suc i) x l) ≡ None
+        → (first_index field_name (suc i) x l ≡ None → last field_name x l ≡ None) → or_else (last field_name x l) (pick b (Some f) None) ≡ None
     by true g r = some_none i g
     by false g r = rw (r g)

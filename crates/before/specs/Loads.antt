@@ -1,10 +1,9 @@
 -- 02: P2: of each access that analysis accepts, if its base is of a declared struct, the Load's number is 8 times the first position of the field in
 -- that struct, as last declared.
 -- Assumes nothing.
-use Rattle.std.specs.Prelude.{◌≡◌, refl, List, [], ◌∷◌, ◌++◌, ℕ, suc, ◌*◌, ◌/◌}
+use Rattle.std.specs.Prelude.{◌≡◌, refl, List, [], ◌∷◌, ◌++◌, ℕ, suc, ◌*◌, ◌/◌, None, Option, Some}
 use Rattle.std.proofs.Math.Path.{sym}
 use Rattle.std.proofs.Common.{ap, subst, ◌∙◌, eq-eqb, ne_eqb}
-use Rattle.std.proofs.Math.Option.{Option, none, some}
 use Rattle.isa.specs.declared.Opcode.TheVariants as op
 use Rattle.rules.specs.Bytes.{pick, Name}
 use Rattle.rules.specs.Tables.{first_index}
@@ -61,15 +60,15 @@ module _ (R : Rules) (C : Contract) (p : ℕ) (e : Expr) (x : Name) (s : Scope) 
   access_load h = behind_base (expr R C e s n) h
 
 -- Where one struct is meant and has the field, that is the offset.
-module _ (C : Contract) (p : ℕ) (x : Name) (d : Struct) (e : declared C (base_at p x (accesses C)) ≡ some d) where
-  at_first : (o : Option ℕ) → first_index field_name 0 x d.fields ≡ o → (i : ℕ) × ((first_index field_name 0 x d.fields ≡ some i) × (offset C p x ≡ i * 8))
+module _ (C : Contract) (p : ℕ) (x : Name) (d : Struct) (e : declared C (base_at p x (accesses C)) ≡ Some d) where
+  at_first : (o : Option ℕ) → first_index field_name 0 x d.fields ≡ o → (i : ℕ) × ((first_index field_name 0 x d.fields ≡ Some i) × (offset C p x ≡ i * 8))
   unfolding offset choices among positions with_position first_of
-  at_first (some i) h = (i, (h, rw (e, h)))
-  at_first none h = absurd (meant_has C p x d e h)
+  at_first (Some i) h = (i, (h, rw (e, h)))
+  at_first None h = absurd (meant_has C p x d e h)
 
 -- 02: P2: what the Load of an access has.
 unfoldable pub Meant : Contract → Access → Type 0
-Meant C a = (d : Struct) → declared C a.base ≡ some d → (i : ℕ) × ((first_index field_name 0 a.field d.fields ≡ some i)
+Meant C a = (d : Struct) → declared C a.base ≡ Some d → (i : ℕ) × ((first_index field_name 0 a.field d.fields ≡ Some i)
     × ((R : Rules) (e : Expr) (s : Scope) (n : ℕ) (v : Value) → expr R C (Expr.field-access a.place e a.field) s n ≡ ok v → EndsWithLoad a.place (i * 8) v.code))
 
 pub meant_each : (C : Contract) (l : List Access) → Each (λ (a : Access). base_at a.place a.field (accesses C) ≡ a.base) l → Each (Meant C) l

@@ -1,11 +1,10 @@
 -- Of an access that analysis accepts, a declared struct that is its base's has the field. So where all structs agree on the field, P2's
 -- offset is the old one, and there is no 30.
 -- Assumes nothing.
-use Rattle.std.specs.Prelude.{◌≡◌, Bool, ℕ, ◌*◌, eqb}
+use Rattle.std.specs.Prelude.{◌≡◌, Bool, ℕ, ◌*◌, eqb, None, Option, Some}
 use Rattle.std.proofs.Math.Path.{refl, sym, ap}
 use Rattle.std.proofs.Common.{◌∙◌, subst}
 use Rattle.std.proofs.Math.Bool.{true, false}
-use Rattle.std.proofs.Math.Option.{Option, none, some}
 use mathlib.Core.List.{List, [], ◌∷◌}
 use Rattle.rules.specs.Bytes.{pick, Name, eq_name, ◌and◌}
 use Rattle.rules.specs.Tables.{first_index, mapped}
@@ -40,10 +39,10 @@ bad_ok r a h = never (ap test h)
 module _ (C : Contract) where
   -- The struct, if it is declared, has the field.
   Has : Access → Type 0
-  Has a = (d : Struct) → declared C a.base ≡ some d → first_index field_name 0 a.field d.fields ≡ none → ⊥
+  Has a = (d : Struct) → declared C a.base ≡ Some d → first_index field_name 0 a.field d.fields ≡ None → ⊥
 
   -- 001: FieldAccess: analysis looked it up.
-  accepted : (p : ℕ) (t : Typ) (x : Name) (u : Typ) → analysis.access C p t x ≡ ok u → (d : Struct) → declared C t ≡ some d → first_index field_name 0 x d.fields ≡ none → ⊥
+  accepted : (p : ℕ) (t : Typ) (x : Name) (u : Typ) → analysis.access C p t x ≡ ok u → (d : Struct) → declared C t ≡ Some d → first_index field_name 0 x d.fields ≡ None → ⊥
   unfolding analysis.access analysis.field_of analysis.field_type_lem declared known mapped
   accepted p (Typ.struct s) x u h d e n = bad_ok (Refusal.no_field p s x) u (sym was ∙ (rw e at h))
     where
@@ -109,18 +108,18 @@ module _ (C : Contract) where
   functions_have (f ∷ fs) = each_append Has (of_stmts C _ f.body _) _ (stmts_have _ f.body _) (functions_have fs)
 
   -- So of the one that is found by its place and field.
-  found_has : (p : ℕ) (x : Name) (l : List Access) → Each Has l → (d : Struct) → declared C (base_at p x l) ≡ some d → first_index field_name 0 x d.fields ≡ none → ⊥
+  found_has : (p : ℕ) (x : Name) (l : List Access) → Each Has l → (d : Struct) → declared C (base_at p x l) ≡ Some d → first_index field_name 0 x d.fields ≡ None → ⊥
   unfolding base_at declared pick Has
   found_has p x [] h d e n = some_none d (sym e)
   found_has p x (a ∷ l) h d e n = by (eqb a.place p) (eq_name a.field x) refl e (λ g. found_has p x l h.1 d g n)
     where
-      by : (b c : Bool) → eq_name a.field x ≡ c → declared C (pick (b and c) a.base (base_at p x l)) ≡ some d → (declared C (base_at p x l) ≡ some d → ⊥) → ⊥
-      by true true q g r = h.0 d g (subst (λ (y : Name). first_index field_name 0 y d.fields ≡ none) (sym (name_eq a.field x q)) n)
+      by : (b c : Bool) → eq_name a.field x ≡ c → declared C (pick (b and c) a.base (base_at p x l)) ≡ Some d → (declared C (base_at p x l) ≡ Some d → ⊥) → ⊥
+      by true true q g r = h.0 d g (subst (λ (y : Name). first_index field_name 0 y d.fields ≡ None) (sym (name_eq a.field x q)) n)
       by true false q g r = r g
       by false c q g r = r g
 
   -- Of the struct that is meant.
-  pub meant_has : (p : ℕ) (x : Name) (d : Struct) → declared C (base_at p x (accesses C)) ≡ some d → first_index field_name 0 x d.fields ≡ none → ⊥
+  pub meant_has : (p : ℕ) (x : Name) (d : Struct) → declared C (base_at p x (accesses C)) ≡ Some d → first_index field_name 0 x d.fields ≡ None → ⊥
   unfolding accesses
   meant_has p x = found_has p x (accesses C) (functions_have C.functions)
 
@@ -130,7 +129,7 @@ module _ (C : Contract) where
     all = positions x (layouts C.structs)
 
     -- The field of a declared struct stands where it stands in the first.
-    stands : (t : Typ) (d : Struct) → declared C t ≡ some d → Opt (λ k. first_of all ≡ k) (first_index field_name 0 x d.fields)
+    stands : (t : Typ) (d : Struct) → declared C t ≡ Some d → Opt (λ k. first_of all ≡ k) (first_index field_name 0 x d.fields)
     unfolding declared all analysis.struct_named
     stands (Typ.struct s) d e = of_declared _ x s C.structs (agreed _ (sym (ambiguous_before C p x) ∙ clear)) d e
     stands Typ.u64 d e = some_none d (sym e)
@@ -140,16 +139,16 @@ module _ (C : Contract) where
     stands Typ.unknown d e = some_none d (sym e)
 
     -- One position, or all as before.
-    settled : (o : Option Struct) → ((d : Struct) → o ≡ some d → Opt (λ k. first_of all ≡ k) (first_index field_name 0 x d.fields))
-        → ((d : Struct) → o ≡ some d → first_index field_name 0 x d.fields ≡ none → ⊥)
+    settled : (o : Option Struct) → ((d : Struct) → o ≡ Some d → Opt (λ k. first_of all ≡ k) (first_index field_name 0 x d.fields))
+        → ((d : Struct) → o ≡ Some d → first_index field_name 0 x d.fields ≡ None → ⊥)
         → (first_of (positions x (among o (layouts C.structs))) ≡ first_of all) × (apart (positions x (among o (layouts C.structs))) ≡ false)
     unfolding among all first_of with_position apart differs positions
-    settled none h g = (refl, sym (ambiguous_before C p x) ∙ clear)
-    settled (some d) h g = by (first_index field_name 0 x d.fields) (h d refl) (g d refl)
+    settled None h g = (refl, sym (ambiguous_before C p x) ∙ clear)
+    settled (Some d) h g = by (first_index field_name 0 x d.fields) (h d refl) (g d refl)
       where
-        by : (o : Option ℕ) → Opt (λ k. first_of all ≡ k) o → (o ≡ none → ⊥) → (first_of (with_position o []) ≡ first_of all) × (apart (with_position o []) ≡ false)
-        by (some k) q z = (sym q, refl)
-        by none q z = absurd (z refl)
+        by : (o : Option ℕ) → Opt (λ k. first_of all ≡ k) o → (o ≡ None → ⊥) → (first_of (with_position o []) ≡ first_of all) × (apart (with_position o []) ≡ false)
+        by (Some k) q z = (sym q, refl)
+        by None q z = absurd (z refl)
 
     both : (first_of (choices C p x) ≡ first_of all) × (apart (choices C p x) ≡ false)
     unfolding choices

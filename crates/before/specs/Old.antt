@@ -1,8 +1,7 @@
 -- 01's own rule, as it was before 02's P2: every access keeps the search by the field alone, and 30 is given at any. It is the mended rule of a
 -- contract whose functions were not analysed: no base is known in it. Below, the old texts, word for word.
 -- Assumes nothing.
-use Rattle.std.specs.Prelude.{◌≡◌, refl, List, [], ◌++◌, ℕ, ◌*◌}
-use Rattle.std.proofs.Math.Option.{Option}
+use Rattle.std.specs.Prelude.{◌≡◌, refl, List, [], ◌++◌, ℕ, ◌*◌, Option}
 use Rattle.rules.specs.Bytes.{Name}
 use Rattle.rules.specs.Tables.{last}
 use Rattle.rules.specs.Tree.{Function, Contract}

@@ -5,8 +5,7 @@
 use Rattle.std.specs.Prelude.{◌≡◌, refl, Bool, true, false, List, ℕ, ◌/◌, ◌≤◌, ◌<◌, ltb, length}
 use Rattle.std.proofs.Common.{arith}
 use Rattle.rules.specs.declared.Answer.{Answer}
-use Rattle.rules.specs.declared.Seen.{Seen}
-use Rattle.rules.specs.declared.Seen.TheVariants.{Sound, Fault}
+use Rattle.rules.specs.Seen.{Seen, Sound, Fault}
 use Rattle.rules.specs.Check.{check_of}
 use Rattle.rules.specs.Read.{contract_at}
 use Rattle.rules.specs.Refusal.{Refusal, Res, ok, bad, ◌>>=◌, unless, answer, refused, number_of, place_of}

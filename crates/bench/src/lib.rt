@@ -14,8 +14,8 @@ pub extern "C" fn hasp_check(image: &[u8]) -> u64
     ensures { result ≡ packed (checked (check_of image.now)) }
 {
     match image::check(image) {
-        Seen::Sound(_, _) => 0,
-        Seen::Fault(number, place) => host::pack(Answer {
+        Ok(_) => 0,
+        Err((number, place)) => host::pack(Answer {
             refusal: number as u64,
             place: place as u64,
             count: 0,

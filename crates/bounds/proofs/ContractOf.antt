@@ -4,7 +4,7 @@
 use Rattle.std.specs.Prelude.{◌≡◌, refl, Bool, true, false, List, [], ◌∷◌, map, ℕ, zero, suc, ◌+◌, ◌*◌, ◌≤◌, ◌<◌, eqb, length}
 use Rattle.std.proofs.Common.{sym, subst, arith}
 use Rattle.std.proofs.lemmas.List.{length-map}
-use Rattle.rules.specs.declared.Seen.TheVariants.{Sound}
+use Rattle.rules.specs.Seen.{Sound}
 use Rattle.rules.specs.Bytes.{pick, kind_at, inside, after, name_at}
 use Rattle.rules.specs.Grammar as due
 use Rattle.rules.specs.Grammar.{classes, class_of, records, parts_of, part_of, due_at}

@@ -5,7 +5,7 @@ use Rattle.std.specs.Prelude.{◌≡◌, false, List, ℕ, ◌%◌, ◌^◌, ◌
 use Rattle.std.proofs.Common.{sym, subst, arith}
 use Rattle.isa.specs.Word.{top_of}
 use Rattle.isa.specs.Facts.{fact_in, Ruled}
-use Rattle.rules.specs.declared.Seen.TheVariants.{Sound}
+use Rattle.rules.specs.Seen.{Sound}
 use Rattle.rules.specs.Bytes.{Name}
 use Rattle.rules.specs.Tree.{Contract}
 use Rattle.rules.specs.Read.{contract_at}

@@ -1,10 +1,9 @@
 -- Every word of an accepted program has a number: registers stay below 32, and a tree of k records comes to 65 k words at most. And no word has
 -- anything in a field that its opcode does not set (02: P7).
 -- Assumes nothing.
-use Rattle.std.specs.Prelude.{◌≡◌, refl, Bool, true, false, leb}
+use Rattle.std.specs.Prelude.{◌≡◌, refl, Bool, true, false, leb, None, Option, Some}
 use Rattle.std.proofs.Common.{sym, ap}
 use Rattle.std.proofs.Math.Path.{subst}
-use Rattle.std.proofs.Math.Option.{Option, none, some}
 use mathlib.Core.List.{List, [], ◌∷◌, ◌++◌, map, reverse, reverse_aux}
 use Prim.Native.Nat.{ℕ, zero, suc, ◌+◌, ◌-◌, ◌*◌, ◌/◌, ◌%◌, ◌≤◌, ◌<◌}
 use native.Mathlib.Omega.{arith}
@@ -141,8 +140,8 @@ less_32 m t i a b c = by-test (leb i t) refl
 
 distance_32 : (m i : ℕ) (o : Option Entry) → m < 2147483648 → i ≤ m → Opt (λ (e : Entry). e.first ≤ m) o → In32 (distance o i)
 unfolding distance
-distance_32 m i none a b h = omega arith
-distance_32 m i (some e) a b h = less_32 m e.first i a h b
+distance_32 m i None a b h = omega arith
+distance_32 m i (Some e) a b h = less_32 m e.first i a h b
 
 -- 000: a patched call is such a word.
 patch_emitted : (m : ℕ) (T : List Entry) → m < 2147483648 → Firsts m T → (i : ℕ) (o : Open) → i ≤ m → WordOf o → Emitted (patch T i o)
@@ -166,8 +165,8 @@ link_length T i (o ∷ l) = ap suc (link_length T (suc i) l)
 -- 000: main is asked for first.
 with_main_all : {A : Type 0} {P : A → Type 0} (o : Option Function) (m : Res A) → All P m → All P (with_main o m)
 unfolding with_main
-with_main_all none m h = all_bad Refusal.no_main
-with_main_all (some f) m h = h
+with_main_all None m h = all_bad Refusal.no_main
+with_main_all (Some f) m h = h
 
 module _ (R : Rules) (C : Contract) (few : R.free ≤ 30) (slots : length C.storage ≤ 256) (fields : (p : ℕ) (x : Name) → offset C p x ≤ 512) where
   find_free : (x : Name) (s : Scope) → Free R s → Opt (λ r. r ≤ R.free) (find x s)
@@ -206,7 +205,7 @@ module _ (R : Rules) (C : Contract) (few : R.free ≤ 30) (slots : length C.stor
   pub apply_fine : (p : ℕ) (f : Name) (n k : ℕ) (m : Res Values) (b : Option Builtin) → n ≤ suc R.free → All (λ (a : Values). Fines R k n a) m
       → All (λ (v : Value). Fine R (suc k) n v.code v.reg v.next) (apply R C p f n m b)
   unfolding apply
-  apply_fine p f n k m (some Builtin.poseidon) h e =
+  apply_fine p f n k m (Some Builtin.poseidon) h e =
       all_bind m _ e (λ a g.
       all_bind (result R C p n _ _) _ (result_free p n _ _ (arg_low _ 0 a.regs g.lows) (arg_low _ 1 a.regs g.lows)) (λ d q.
       all_ok _ (let l : length a.code + length a.regs ≤ 65 * k = g.long in
@@ -219,13 +218,13 @@ module _ (R : Rules) (C : Contract) (few : R.free ≤ 30) (slots : length C.stor
         long = simp length-append (omega arith);
         ranged = ranged_append a.code _ g.ranged (omega arith, tt);
       })))
-  apply_fine p f n k m (some Builtin.sender) h e =
+  apply_fine p f n k m (Some Builtin.sender) h e =
       all_bind (alloc_reg_lem R C p n) _ (alloc_is R C p n) (λ d q. all_ok _ (record { low = omega arith; high = omega arith; free = q.1; long = omega arith; ranged = (omega arith, tt) }))
-  apply_fine p f n k m (some Builtin.nonce) h e =
+  apply_fine p f n k m (Some Builtin.nonce) h e =
       all_bind (alloc_reg_lem R C p n) _ (alloc_is R C p n) (λ d q. all_ok _ (record { low = omega arith; high = omega arith; free = q.1; long = omega arith; ranged = (omega arith, tt) }))
-  apply_fine p f n k m (some Builtin.block-number) h e =
+  apply_fine p f n k m (Some Builtin.block-number) h e =
       all_bind (alloc_reg_lem R C p n) _ (alloc_is R C p n) (λ d q. all_ok _ (record { low = omega arith; high = omega arith; free = q.1; long = omega arith; ranged = (omega arith, tt) }))
-  apply_fine p f n k m (some Builtin.merkle) h e =
+  apply_fine p f n k m (Some Builtin.merkle) h e =
       all_bind m _ e (λ a g.
       all_bind (alloc_reg_lem R C p a.next) _ (alloc_is R C p a.next) (λ d q.
       all_ok _ (let l : length a.code + length a.regs ≤ 65 * k = g.long in
@@ -240,7 +239,7 @@ module _ (R : Rules) (C : Contract) (few : R.free ≤ 30) (slots : length C.stor
         long = simp length-append (omega arith);
         ranged = ranged_append a.code _ g.ranged (omega arith, tt);
       })))
-  apply_fine p f n k m none h e =
+  apply_fine p f n k m None h e =
       all_bind m _ e (λ a g.
       all_bind (alloc_reg_lem R C p n) _ (alloc_is R C p n) (λ d q.
       all_ok _ (let l : length a.code + length a.regs ≤ 65 * k = g.long in

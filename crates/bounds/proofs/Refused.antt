@@ -4,7 +4,7 @@ use Rattle.std.specs.Prelude.{◌≡◌, refl, List, ℕ, ◌≤◌, ◌<◌, le
 use Rattle.std.proofs.Common.{ap, subst, sym, arith}
 use Rattle.rules.specs.declared.Answer.{Answer}
 use Rattle.rules.specs.Refusal.{Refusal, answer, refused, number_of, place_of}
-use Rattle.rules.specs.declared.Seen.TheVariants.{Sound}
+use Rattle.rules.specs.Seen.{Sound}
 use Rattle.rules.specs.Check.{check_of}
 use Rattle.rules.specs.Read.{contract_at}
 use Rattle.rules.specs.Link.{Program, generate}

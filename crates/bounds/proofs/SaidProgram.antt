@@ -1,11 +1,10 @@
 -- Every refusal of an image, before the room is looked at: Q holds of it if Q holds at the places and the names of the image.
 -- Assumes nothing.
-use Rattle.std.specs.Prelude.{◌≡◌, refl, ℕ, ◌+◌, ◌≤◌, length}
+use Rattle.std.specs.Prelude.{◌≡◌, refl, ℕ, ◌+◌, ◌≤◌, length, None, Option, Some}
 use Rattle.std.proofs.Common.{sym}
 use Rattle.std.proofs.Math.Path.{subst}
-use Rattle.std.proofs.Math.Option.{Option, none, some}
 use mathlib.Core.List.{List, [], ◌∷◌}
-use Rattle.rules.specs.declared.Seen.TheVariants.{Sound}
+use Rattle.rules.specs.Seen.{Sound}
 use Rattle.rules.specs.Bytes.{Name}
 use Rattle.rules.specs.Check.{check_of}
 use Rattle.rules.specs.Tables.{last}
@@ -42,12 +41,12 @@ module _ (img : List ℕ) (Q : Refusal → Type 0) (A : AllowsGeneration img Q) 
 
   apply_said : (p : ℕ) (f : Name) (n : ℕ) (m : Res Values) (b : Option Builtin) → Here img p → Sure Q m → Sure Q (apply R C p f n m b)
   unfolding apply
-  apply_said p f n m (some Builtin.poseidon) h g = said_then _ _ g (λ a w. said_then _ _ (result_said p n _ _ h) (λ d u. said_ok _ tt))
-  apply_said p f n m (some Builtin.sender) h g = said_then _ _ (alloc_said p n h) (λ d u. said_ok _ tt)
-  apply_said p f n m (some Builtin.nonce) h g = said_then _ _ (alloc_said p n h) (λ d u. said_ok _ tt)
-  apply_said p f n m (some Builtin.block-number) h g = said_then _ _ (alloc_said p n h) (λ d u. said_ok _ tt)
-  apply_said p f n m (some Builtin.merkle) h g = said_then _ _ g (λ a w. said_then _ _ (alloc_said p _ h) (λ d u. said_ok _ tt))
-  apply_said p f n m none h g = said_then _ _ g (λ a w. said_then _ _ (alloc_said p n h) (λ d u. said_ok _ tt))
+  apply_said p f n m (Some Builtin.poseidon) h g = said_then _ _ g (λ a w. said_then _ _ (result_said p n _ _ h) (λ d u. said_ok _ tt))
+  apply_said p f n m (Some Builtin.sender) h g = said_then _ _ (alloc_said p n h) (λ d u. said_ok _ tt)
+  apply_said p f n m (Some Builtin.nonce) h g = said_then _ _ (alloc_said p n h) (λ d u. said_ok _ tt)
+  apply_said p f n m (Some Builtin.block-number) h g = said_then _ _ (alloc_said p n h) (λ d u. said_ok _ tt)
+  apply_said p f n m (Some Builtin.merkle) h g = said_then _ _ g (λ a w. said_then _ _ (alloc_said p _ h) (λ d u. said_ok _ tt))
+  apply_said p f n m None h g = said_then _ _ g (λ a w. said_then _ _ (alloc_said p n h) (λ d u. said_ok _ tt))
 
   number_said : (p v n : ℕ) → Here img p → Sure Q (number R C p v n)
   unfolding number
@@ -135,8 +134,8 @@ module _ (img : List ℕ) (Q : Refusal → Type 0) (A : AllowsGeneration img Q) 
   generate_of h = with (last _ _ C.functions) (said_then _ _ (functions_said 3 C.functions h) (λ b u. said_ok _ tt))
     where
       with : {B : Type 0} {r : Res B} (o : Option Function) → Sure Q r → Sure Q (with_main o r)
-      with none g = said_bad Refusal.no_main A.no_main
-      with (some f) g = g
+      with None g = said_bad Refusal.no_main A.no_main
+      with (Some f) g = g
 
 each_ret : (img : List ℕ) (fs : List Function) → Each (λ (f : Function). WholeFunction img f) fs → Each (λ (f : Function). Opt Short f.ret) fs
 each_ret img [] h = tt

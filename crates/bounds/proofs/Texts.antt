@@ -3,7 +3,7 @@
 -- Assumes nothing.
 use Rattle.std.specs.Prelude.{◌≡◌, refl, List, [], ◌∷◌, ◌++◌, ℕ, zero, suc, ◌+◌, ◌/◌, ◌%◌, ◌≤◌, length}
 use Rattle.std.proofs.Common.{ap, arith, length-append}
-use Rattle.rules.specs.declared.Seen.TheVariants.{Sound}
+use Rattle.rules.specs.Seen.{Sound}
 use Rattle.rules.specs.Bytes.{pick}
 use Rattle.rules.specs.Check.{check_of}
 use Rattle.rules.specs.Types.{Typ}

@@ -1,7 +1,6 @@
 -- What holds of an answer, if there is one.
 -- Assumes nothing.
-use Rattle.std.specs.Prelude.{◌≡◌, refl, Bool, true, false}
-use Rattle.std.proofs.Math.Option.{Option, none, some}
+use Rattle.std.specs.Prelude.{◌≡◌, refl, Bool, true, false, None, Option, Some}
 use Rattle.rules.specs.Bytes.{pick}
 use Rattle.rules.specs.Refusal.{Refusal, Res, ok, bad, ◌>>=◌, known, unless}
 
@@ -40,10 +39,10 @@ all_test true x y p q = p refl
 all_test false x y p q = q refl
 
 -- What was looked up, if it was found.
-pub all_known : {A : Type 0} {P : A → Type 0} (r : Refusal) (o : Option A) → ((a : A) → o ≡ some a → P a) → All P (known r o)
+pub all_known : {A : Type 0} {P : A → Type 0} (r : Refusal) (o : Option A) → ((a : A) → o ≡ Some a → P a) → All P (known r o)
 unfolding known
-all_known r none k = all_bad r
-all_known r (some a) k = all_ok a (k a refl)
+all_known r None k = all_bad r
+all_known r (Some a) k = all_ok a (k a refl)
 
 -- Where the test did not refuse.
 pub all_unless : {A : Type 0} {P : A → Type 0} (b : Bool) (r : Refusal) (a : A) → (b ≡ false → P a) → All P (unless b r a)

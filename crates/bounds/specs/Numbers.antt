@@ -1,8 +1,7 @@
 -- Which words have a number, and that such a word is read back from it.
 -- Assumes nothing.
-use Rattle.std.specs.Prelude.{◌≡◌, refl, List, [], ◌∷◌, map, ℕ, zero, suc, ◌-◌, ◌%◌, ◌^◌, ◌≤◌, ◌<◌}
+use Rattle.std.specs.Prelude.{◌≡◌, refl, List, [], ◌∷◌, map, ℕ, zero, suc, ◌-◌, ◌%◌, ◌^◌, ◌≤◌, ◌<◌, None, Some}
 use Rattle.std.proofs.Common.{ap, ap₂, subst, ◌∙◌, arith}
-use Rattle.isa.specs.declared.Encoded.TheVariants as answer
 use Rattle.isa.specs.declared.Instruction.{Instruction}
 use Rattle.isa.specs.Word.{top_of, encode_of}
 use Rattle.isa.specs.Laws.{any_encode, any_fields, word_below, no_top, signed_low, signed_high}
@@ -36,13 +35,13 @@ signed_bits (Imm.neg n) h =
     ap imm_of (signed_high (4294967296 - n) (omega arith)) ∙ ap Imm.neg (omega arith)
 
 -- Encoding gives its number.
-pub encoded : (w : Word) → Encodable w → encode_of (instruction_of w) 0 ≡ answer.Word (number_of w)
+pub encoded : (w : Word) → Encodable w → encode_of (instruction_of w) 0 ≡ Some (number_of w)
 unfolding instruction_of number_of
 encoded w h = laws.encoded_plain (instruction_of w) (omega (arith, h.rd)) (omega (arith, h.rs1)) (omega (arith, h.rs2))
 
 -- So it does of the fields cut to the widths of 003: 8 bits a register, 32 bits the imm.
 pub encoded_cut : (w : Word) → Encodable w
-    → encode_of (record { opcode = w.op; rd = w.rd % 256; rs1 = w.rs1 % 256; rs2 = w.rs2 % 256; imm = bits_of w.imm % 4294967296 }) 0 ≡ answer.Word (number_of w)
+    → encode_of (record { opcode = w.op; rd = w.rd % 256; rs1 = w.rs1 % 256; rs2 = w.rs2 % 256; imm = bits_of w.imm % 4294967296 }) 0 ≡ Some (number_of w)
 unfolding instruction_of
 encoded_cut w h =
     let a : w.rd % 256 ≡ w.rd = omega (arith, h.rd) in

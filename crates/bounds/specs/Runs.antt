@@ -2,7 +2,7 @@
 -- Assumes nothing.
 use Rattle.std.specs.Prelude.{◌≡◌, refl, Bool, true, false, List, [], ◌∷◌, ℕ, zero, suc, ◌+◌, ◌≤◌, ◌<◌, T, eqb, length}
 use Rattle.std.proofs.Common.{sym, subst, ap, ◌∙◌, arith, lt-ltb, le-ltb}
-use Rattle.rules.specs.declared.Seen.TheVariants.{Sound}
+use Rattle.rules.specs.Seen.{Sound}
 use Rattle.rules.specs.Bytes.{pick, kind_at, inside, after, name_at}
 use Rattle.rules.specs.Grammar as due
 use Rattle.rules.specs.Grammar.{classes, class_of, due_at}

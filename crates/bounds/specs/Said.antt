@@ -3,15 +3,13 @@
 --     Allows      Q holds of each refusal behind the check, at the places and the names that the image has: of analysis and 30, of generation
 --     check_said  rows 1 to 7
 -- Assumes nothing.
-use Rattle.std.specs.Prelude.{◌≡◌, refl, Bool, List, T, ltb, eqb, length}
+use Rattle.std.specs.Prelude.{◌≡◌, refl, Bool, List, T, ltb, eqb, length, None, Option, Some}
 use Rattle.std.proofs.Common.{subst, eqb-true, ltb-false}
 use Rattle.std.proofs.Math.Bool.{true, false}
-use Rattle.std.proofs.Math.Option.{Option, none, some}
 use Prim.Native.Nat.{ℕ, zero, suc, ◌+◌, ◌-◌, ◌≤◌}
 use native.Mathlib.Omega.{arith}
 use Rattle.std.proofs.lemmas.Bool.{eqb-false}
-use Rattle.rules.specs.declared.Seen.{Seen}
-use Rattle.rules.specs.declared.Seen.TheVariants.{Sound, Fault}
+use Rattle.rules.specs.Seen.{Seen, Sound, Fault}
 use Rattle.rules.specs.Bytes.{pick, Name, le32, kind_at, end_at, ◌or◌}
 use Rattle.rules.specs.Grammar.{due_at}
 use Rattle.rules.specs.Check.{unframed, header_of, refusal_of, start_of, Child, and_then, children_of, record_by, record_of, whole_of, check_of}
@@ -44,8 +42,8 @@ module _ {A : Type 0} {Q : Refusal → Type 0} {P : A → Type 0} where
 
   pub said_known : (r : Refusal) (o : Option A) → Q r → Opt P o → Said Q P (known r o)
   unfolding known
-  said_known r (some a) h g = said_ok a g
-  said_known r none h g = said_bad r h
+  said_known r (Some a) h g = said_ok a g
+  said_known r None h g = said_bad r h
 
   pub said_unless : (b : Bool) (r : Refusal) (a : A) → Q r → P a → Said Q P (unless b r a)
   unfolding unless
@@ -59,8 +57,8 @@ module _ {A : Type 0} {Q : Refusal → Type 0} {P : A → Type 0} where
 
 pub said_found : {A : Type 0} {Q : Refusal → Type 0} (r : Refusal) (o : Option A) → Q r → Said Q (Any A) (known r o)
 unfolding known
-said_found r (some a) h = said_ok a tt
-said_found r none h = said_bad r h
+said_found r (Some a) h = said_ok a tt
+said_found r None h = said_bad r h
 
 -- What holds of the answer, whatever the refusals are.
 pub said_all : {A : Type 0} {Q : Refusal → Type 0} {P : A → Type 0} {m : Res A} → Said Q P m → All P m

@@ -1,7 +1,6 @@
 -- What analysis and 30 refuse of a checked contract: at its places, with its names (rows 10 to 22, and 30).
 -- Assumes nothing.
-use Rattle.std.specs.Prelude.{Bool, true, false, ℕ, suc, length}
-use Rattle.std.proofs.Math.Option.{Option, none, some}
+use Rattle.std.specs.Prelude.{Bool, true, false, ℕ, suc, length, None, Option, Some}
 use mathlib.Core.List.{List, [], ◌∷◌}
 use Rattle.rules.specs.Bytes.{pick, Name, eq_name}
 use Rattle.rules.specs.Tables.{last, mapped}
@@ -44,8 +43,8 @@ short_params (p ∷ ps) Γ h g = short_params ps _ h.1 (short_named p.type h.0, 
 
 short_ret : (o : Option Name) → Opt Short o → ShortType (analysis.ret_type o)
 unfolding analysis.ret_type
-short_ret none h = tt
-short_ret (some x) h = short_named x h
+short_ret None h = tt
+short_ret (Some x) h = short_named x h
 
 -- 001: structs, functions: what is looked up has short types.
 short_field : (x : Name) (s : Struct) → ShortTypes s.fields → Opt ShortType (analysis.field_type_lem x s)
@@ -53,8 +52,8 @@ unfolding analysis.field_type_lem mapped
 short_field x s h = by (last analysis.field_name x s.fields) (each_last (λ (f : Field). Short f.type) analysis.field_name x s.fields h)
   where
     by : (o : Option Field) → Opt (λ (f : Field). Short f.type) o → Opt ShortType (mapped (λ (f : Field). type_named f.type) o)
-    by none g = tt
-    by (some f) g = short_named f.type g
+    by None g = tt
+    by (Some f) g = short_named f.type g
 
 -- A contract whose types are short.
 pub record ShortContract (C : Contract) : Type 0 where
@@ -66,12 +65,12 @@ unfolding analysis.signature analysis.sig_of mapped
 short_signature C h x = opt_or _ _ _ (known (builtin x)) (user (last analysis.function_name x C.functions) (each_last (λ (f : Function). Opt Short f.ret) analysis.function_name x C.functions h.rets))
   where
     known : (o : Option Builtin) → Opt (λ (s : analysis.Sig). ShortType s.ret) (mapped (λ (b : Builtin). analysis.sig (analysis.repeated (arity b)) Typ.u64) o)
-    known none = tt
-    known (some b) = tt
+    known None = tt
+    known (Some b) = tt
 
     user : (o : Option Function) → Opt (λ (f : Function). Opt Short f.ret) o → Opt (λ (s : analysis.Sig). ShortType s.ret) (mapped analysis.sig_of o)
-    user none g = tt
-    user (some f) g = short_ret f.ret g
+    user None g = tt
+    user (Some f) g = short_ret f.ret g
 
 module _ (img : List ℕ) (Q : Refusal → Type 0) (A : AllowsFront img Q) (C : Contract) (S : ShortContract C) where
   -- The place of an expression.
@@ -98,24 +97,24 @@ module _ (img : List ℕ) (Q : Refusal → Type 0) (A : AllowsFront img Q) (C : 
 
   fits_said : (f : Name) (o : Option analysis.Misfit) (t : Typ) → Short f → ShortType t → Opt (λ (k : analysis.Misfit). Here img k.place) o → Said Q ShortType (analysis.fits f o t)
   unfolding analysis.fits
-  fits_said f none t z g h = said_ok t g
-  fits_said f (some k) t z g h = said_bad (Refusal.arg_type k.place k.index f) (A.arg_type _ _ f h z)
+  fits_said f None t z g h = said_ok t g
+  fits_said f (Some k) t z g h = said_bad (Refusal.arg_type k.place k.index f) (A.arg_type _ _ f h z)
 
   applied_said : (p : ℕ) (f : Name) (n : ℕ) (o : Option analysis.Misfit) (s : Option analysis.Sig) → Named img p f → Opt (λ (k : analysis.Misfit). Here img k.place) o
       → Opt (λ (s : analysis.Sig). ShortType s.ret) s → Said Q ShortType (analysis.applied p f n o s)
   unfolding analysis.applied analysis.fitted
-  applied_said p f n o none h g z = said_bad (Refusal.no_function p f) (A.no_function p f h)
-  applied_said p f n o (some s) h g z = said_pick _ _ _ (fits_said f o s.ret h.short z g) (said_bad (Refusal.arg_count p f (length s.params) n) (A.arg_count p f _ _ h))
+  applied_said p f n o None h g z = said_bad (Refusal.no_function p f) (A.no_function p f h)
+  applied_said p f n o (Some s) h g z = said_pick _ _ _ (fits_said f o s.ret h.short z g) (said_bad (Refusal.arg_count p f (length s.params) n) (A.arg_count p f _ _ h))
 
   init_said : (p : ℕ) (x : Name) (o : Option Typ) (t : Typ) → Named img p x → Said Q (Any (Unit {0})) (analysis.init_fits_lem p x o t)
   unfolding analysis.init_fits_lem
-  init_said p x none t h = said_bad (Refusal.init_field p x) (A.init_field p x h)
-  init_said p x (some e) t h = said_unless _ _ _ (A.init_type p x h) tt
+  init_said p x None t h = said_bad (Refusal.init_field p x) (A.init_field p x h)
+  init_said p x (Some e) t h = said_unless _ _ _ (A.init_type p x h) tt
 
   field_said : (p : ℕ) (s x : Name) (o : Option Struct) → Here img p → Short s → Short x → Opt (λ (d : Struct). ShortTypes d.fields) o → Said Q ShortType (analysis.field_of p s x o)
   unfolding analysis.field_of
-  field_said p s x none h g z d = said_ok _ tt
-  field_said p s x (some t) h g z d = said_known _ _ (A.no_field p s x h g z) (short_field x t d)
+  field_said p s x None h g z d = said_ok _ tt
+  field_said p s x (Some t) h g z d = said_known _ _ (A.no_field p s x h g z) (short_field x t d)
 
   access_said : (p : ℕ) (t : Typ) (x : Name) → Here img p → ShortType t → Short x → Said Q ShortType (analysis.access C p t x)
   unfolding analysis.access analysis.struct_named
@@ -243,5 +242,5 @@ module _ (img : List ℕ) (C : Contract) where
   clear_said Q A h = by (in_functions C C.functions) (functions_spot C.functions h)
     where
       by : (o : Option ℕ) → Opt (Here img) o → Said Q (Any (Unit {0})) (clear o)
-      by none g = said_ok _ tt
-      by (some p) g = said_bad (Refusal.ambiguous p) (A.ambiguous p g)
+      by None g = said_ok _ tt
+      by (Some p) g = said_bad (Refusal.ambiguous p) (A.ambiguous p g)

@@ -4,8 +4,7 @@
 use Rattle.std.specs.Prelude.{◌≡◌, refl, Bool, true, false, not, List, ℕ, zero, suc, ◌+◌, ◌-◌, ◌≤◌, ◌<◌, T, ltb, leb, eqb, length, drop}
 use Rattle.std.proofs.Common.{sym, subst, arith, ltb-false, leb-false, eqb-true, length-take}
 use Rattle.std.proofs.Math.Nat.{min-le_left}
-use Rattle.rules.specs.declared.Seen.{Seen}
-use Rattle.rules.specs.declared.Seen.TheVariants.{Sound, Fault}
+use Rattle.rules.specs.Seen.{Seen, Sound, Fault, same_vars}
 use Rattle.rules.specs.Bytes.{pick, le32, kind_at, end_at, name_from, inside, after, name_at, ◌or◌, ◌and◌}
 use Rattle.rules.specs.Grammar.{class_of, due_at}
 use Rattle.rules.specs.Check.{unframed, undue, counts, crowded, own_of, header_of, refusal_of, vars_in_lem, start_of, ended, and_then, children_of, record_by, record_of}
@@ -112,7 +111,7 @@ run_by : (left : ℕ) (img : List ℕ) (p end d k i vars q m : ℕ) (ends none :
     → pick ends (Sound end vars) (pick none (Fault 4 p) (and_then a rest)) ≡ Sound q m → Run left img end d k i p vars m
 unfolding pick and_then ended
 run_by left img p end d k i vars q m true none a rest h x z y g e =
-    let b = and_true (eqb p end) _ x in let f : m ≡ vars = cc in no_more (eqb-true p end b.0) (not_true _ b.1) f
+    let b = and_true (eqb p end) _ x in let f = sym (same_vars e) in no_more (eqb-true p end b.0) (not_true _ b.1) f
 run_by left img p end d k i vars q m false true a rest h x z y g e = clash e
 run_by left img p end d k i vars q m false false (Sound r n) rest h x z y g e =
     let w = found left img p end (due_at d k i) i vars r n h y in

@@ -2,10 +2,9 @@
 --     three       an entry of the table as the code has it; rows: the first k
 --     rows_are    they are the entries of the program
 -- Assumes nothing.
-use Rattle.std.specs.Prelude.{◌≡◌, length, take}
+use Rattle.std.specs.Prelude.{◌≡◌, length, take, None, Option, Some}
 use Rattle.std.proofs.Math.Path.{refl, sym, ap}
 use Rattle.std.proofs.Common.{◌∙◌, le_of_suc-le-suc, not-suc-le-zero, arith, take-suc, get_or-take}
-use Rattle.std.proofs.Math.Option.{Option, none, some}
 use mathlib.Core.List.{List, [], ◌∷◌, ◌++◌, map}
 use Prim.Native.Nat.{ℕ, zero, suc, ◌+◌, ◌≤◌, ◌<◌}
 use Rattle.std.proofs.Math.ListN.{get_or, get_or-map}
@@ -68,8 +67,8 @@ generated_mirrors R img = with (last-main) (all_bind (functions R (contract_at i
     last-main = last (λ (f : Function). f.name) main (contract_at img).functions
 
     with : {Q : Program → Type 0} {r : Res Program} (o : Option Function) → All Q r → All Q (with_main o r)
-    with none h = all_bad Refusal.no_main
-    with (some f) h = h
+    with None h = all_bad Refusal.no_main
+    with (Some f) h = h
 
 pub mirrors_length : (img ps : List ℕ) (T : List Entry) → Mirrors img ps T → length T ≡ length ps
 unfolding Mirrors

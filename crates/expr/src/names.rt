@@ -12,14 +12,6 @@ ghost use Rattle.tables.specs.Listed.{Tabled};
 ghost use Rattle.expr.specs.Scope.{scope_in};
 ghost use Rattle.expr.specs.Names.{reg_of, Unknown, builtin_of, function_in};
 
-use tables::Found;
-
-#[derive(Clone, Copy)]
-pub enum Local {
-    Reg(u64),
-    Missing,
-}
-
 #[derive(Clone, Copy)]
 pub enum Builtin {
     Poseidon,
@@ -27,7 +19,6 @@ pub enum Builtin {
     Nonce,
     BlockNumber,
     Merkle,
-    Nothing,
 }
 
 // The cell at i, 0 past the end.
@@ -46,7 +37,7 @@ fn names_in(scope: &[usize]) -> usize
 }
 
 // 000: scope.get. Names are read only where keys are equal.
-pub fn lookup(img: &[u8], scope: &[usize], x: usize) -> Local
+pub fn lookup(img: &[u8], scope: &[usize], x: usize) -> Option<u64>
     ensures { reg_of result ≡ find (name_at img.now x) (scope_in img.now scope.now) }
 {
     let key = records::name_key(img, x);
@@ -56,11 +47,11 @@ pub fn lookup(img: &[u8], scope: &[usize], x: usize) -> Local
         if cell(scope, 2 * k + 1) == key {
             let c = cell(scope, 2 * k + 2);
             if records::same_name(img, records::place_in(c), x) {
-                return Local::Reg(records::number_in(c) as u64);
+                return Some(records::number_in(c) as u64);
             }
         }
     }
-    Local::Missing
+    None
 }
 
 // 000: func_offsets.get: the last function of the name at x, as its index
@@ -69,8 +60,8 @@ pub fn function_index(img: &[u8], tables: &[usize], x: usize) -> usize
     ensures { result ≡ function_in img.now (name_at img.now x) }
 {
     match tables::function_named(img, tables, x) {
-        Found::At(i, p) => i,
-        Found::Nothing => 256,
+        Some(found) => found.index,
+        None => 256,
     }
 }
 
@@ -89,26 +80,26 @@ fn may_be_builtin(key: usize) -> bool
 }
 
 // 000: generate_expr, Call: the names that it knows
-pub fn builtin_named(img: &[u8], x: usize) -> Builtin
+pub fn builtin_named(img: &[u8], x: usize) -> Option<Builtin>
     ensures { builtin_of result ≡ builtin (name_at img.now x) }
 {
     if !may_be_builtin(records::name_key(img, x)) {
-        return Builtin::Nothing;
+        return None;
     }
     if records::is_name(img, x, b"poseidon") {
-        return Builtin::Poseidon;
+        return Some(Builtin::Poseidon);
     }
     if records::is_name(img, x, b"msg::sender") {
-        return Builtin::Sender;
+        return Some(Builtin::Sender);
     }
     if records::is_name(img, x, b"msg::nonce") {
-        return Builtin::Nonce;
+        return Some(Builtin::Nonce);
     }
     if records::is_name(img, x, b"block::number") {
-        return Builtin::BlockNumber;
+        return Some(Builtin::BlockNumber);
     }
     if records::is_name(img, x, b"verify_merkle_proof") {
-        return Builtin::Merkle;
+        return Some(Builtin::Merkle);
     }
-    Builtin::Nothing
+    None
 }

@@ -1,7 +1,6 @@
 -- The Fields of a List and the structs of an image, one at a time.
 -- Assumes nothing.
-use Rattle.std.specs.Prelude.{true, false, List, [], map, ◌≡◌, ℕ, ◌+◌, ◌-◌, ◌≤◌, ◌<◌, length}
-use Rattle.std.proofs.Math.Option.{none, some}
+use Rattle.std.specs.Prelude.{true, false, List, [], map, ◌≡◌, ℕ, ◌+◌, ◌-◌, ◌≤◌, ◌<◌, length, None, Some}
 use Rattle.std.proofs.Math.Path.{refl}
 use Rattle.std.proofs.Common.{add-one, drop_of_length-le}
 use native.Mathlib.Omega.{arith}
@@ -17,17 +16,17 @@ use Rattle.fields.specs.Spots.{positions_from}
 -- The Fields from place p and position n on, m in all at most.
 module _ (img : List ℕ) (x : Name) (m n p e : ℕ) where
   -- m were read: the field is none of the rest.
-  pub field_zero : m ≤ n → none ≡ first_index (λ (f : Field). f.name) n x (map (field_at img) (places_from (m - n) img p e))
+  pub field_zero : m ≤ n → None ≡ first_index (λ (f : Field). f.name) n x (map (field_at img) (places_from (m - n) img p e))
   unfolding first_index
   field_zero h = rw (places_zero img (m - n) p e (omega arith))
 
   -- The List ends: the same.
-  pub field_end : e ≤ p → none ≡ first_index (λ (f : Field). f.name) n x (map (field_at img) (places_from (m - n) img p e))
+  pub field_end : e ≤ p → None ≡ first_index (λ (f : Field). f.name) n x (map (field_at img) (places_from (m - n) img p e))
   unfolding first_index
   field_end h = rw (places_end img (m - n) p e h)
 
   -- The Field at p has the name.
-  pub field_here : n < m → p < e → eq_name (name_in img p) x ≡ true → some n ≡ first_index (λ (f : Field). f.name) n x (map (field_at img) (places_from (m - n) img p e))
+  pub field_here : n < m → p < e → eq_name (name_in img p) x ≡ true → Some n ≡ first_index (λ (f : Field). f.name) n x (map (field_at img) (places_from (m - n) img p e))
   unfolding first_index field_at or_else pick
   field_here h l q = rw (places_more img (m - n) p e (λ z. omega arith) l, q)
 

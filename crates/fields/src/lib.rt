@@ -9,18 +9,8 @@ ghost use Rattle.tables.specs.Listed.{Tabled, structs_in};
 ghost use Rattle.notes.specs.Notes.{Known};
 ghost use Rattle.fields.specs.Spots.{Position, Newest, Placed, searched};
 
-use notes::Note;
-use tables::Found;
-
-// The position of a field in its struct.
-#[derive(Clone, Copy)]
-pub enum Spot {
-    At(usize),
-    Nowhere,
-}
-
 // 000: fields.iter().position: the first of the name x in the List of Fields at l
-fn position(img: &[u8], l: usize, x: &[u8]) -> Spot
+fn position(img: &[u8], l: usize, x: &[u8]) -> Option<usize>
     ensures { Position img.now l x.now result }
 {
     let end = records::past(img, l);
@@ -28,12 +18,12 @@ fn position(img: &[u8], l: usize, x: &[u8]) -> Spot
     let mut n = 0;
     while n < 64 && p < end {
         if records::is_name(img, records::body(img, p), x) {
-            return Spot::At(n);
+            return Some(n);
         }
         p = records::past(img, p);
         n += 1;
     }
-    Spot::Nowhere
+    None
 }
 
 // Whether no later struct has the name at x, which is the name of the struct with index i.
@@ -42,27 +32,22 @@ fn is_newest(img: &[u8], tables: &[usize], i: usize, x: usize) -> bool
     ensures { Newest img.now i result }
 {
     match tables::struct_named(img, tables, x) {
-        Found::At(k, _) => k == i,
-        Found::Nothing => true,
+        Some(found) => found.index == i,
+        None => true,
     }
 }
 
 // The position of the field x in the struct with index i, if no later one has its name: that is asked only where the field is.
-pub fn position_at(img: &[u8], tables: &[usize], i: usize, x: &[u8]) -> Spot
+pub fn position_at(img: &[u8], tables: &[usize], i: usize, x: &[u8]) -> Option<usize>
     requires { Tabled img.now tables.now × (i < length (structs_in img.now)) }
     ensures { Placed img.now x.now i result }
 {
     let name = records::body(img, tables::struct_place(tables, i));
-    let here = position(img, records::past(img, name), x);
-    match here {
-        Spot::At(_) => {
-            if is_newest(img, tables, i, name) {
-                here
-            } else {
-                Spot::Nowhere
-            }
-        }
-        Spot::Nowhere => here,
+    let here = position(img, records::past(img, name), x)?;
+    if is_newest(img, tables, i, name) {
+        Some(here)
+    } else {
+        None
     }
 }
 
@@ -76,15 +61,10 @@ fn field_offset(img: &[u8], tables: &[usize], x: usize) -> u64
     let n = tables::struct_count(tables);
     let mut i = 0;
     while i < n {
-        let here = position_at(img, tables, i, name);
-        match here {
-            Spot::At(k) => {
-                return (k as u64) * 8;
-            }
-            Spot::Nowhere => {
-                i += 1;
-            }
+        if let Some(k) = position_at(img, tables, i, name) {
+            return (k as u64) * 8;
         }
+        i += 1;
     }
     0
 }
@@ -100,9 +80,8 @@ pub fn offset_at(
     requires { Known img.now tables.now notes.now × (x ≡ second img.now at) }
     ensures { result ≡ offset (contract_at img.now) at (name_at img.now x) }
 {
-    let n = notes::get(notes, at);
-    match n {
-        Note::At(k) => (k as u64) * 8,
-        Note::Nothing => field_offset(img, tables, x),
+    match notes::get(notes, at) {
+        Some(k) => (k as u64) * 8,
+        None => field_offset(img, tables, x),
     }
 }

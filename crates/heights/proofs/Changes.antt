@@ -1,12 +1,11 @@
 -- What the table of low bytes says of the height (02: P7) is what a path does.
 -- Assumes nothing.
-use Rattle.std.specs.Prelude.{◌≡◌, refl, List, ℕ, ◌%◌, ◌^◌, eqb, get_or}
+use Rattle.std.specs.Prelude.{◌≡◌, refl, List, ℕ, ◌%◌, ◌^◌, eqb, get_or, None, Option, Some}
 use Rattle.std.proofs.Common.{sym, ap, subst, ◌∙◌, arith, eqb→eq}
 use Rattle.isa.specs.declared.Opcode.{Opcode}
+use Rattle.isa.specs.declared.Instruction.{Instruction}
 use Rattle.isa.specs.declared.Height.{Height}
 use Rattle.isa.specs.declared.Fact.{Fact}
-use Rattle.isa.specs.declared.Fields.{Fields}
-use Rattle.isa.specs.declared.Fields.TheVariants as fields
 use Rattle.isa.specs.Word.{decode_any_of}
 use Rattle.isa.specs.Facts.{row_of, height_in, fact_in, Ruled}
 use Rattle.isa.specs.Laws.{each_opcode}
@@ -40,9 +39,9 @@ pub step_changes : (f : List ℕ) → Ruled f → (T : List Entry) (i n : ℕ) (
 unfolding read word_in
 step_changes f ruled T i n y t g j m = by (decode_any_of n) refl
   where
-    by : (r : Fields) → decode_any_of n ≡ r → Changes (fact_in (get_or f (n % 2 ^ 8) 0)).height t g
-    by fields.Unknown e = absurd (subst (λ (x : Fields). Moves T i (word_in x).imm y (kind (word_in x).op) t g j) e m)
-    by (fields.Known v) e =
-        let s = subst (λ (x : Fields). Moves T i (word_in x).imm y (kind (word_in x).op) t g j) e m in
+    by : (r : Option Instruction) → decode_any_of n ≡ r → Changes (fact_in (get_or f (n % 2 ^ 8) 0)).height t g
+    by None e = absurd (subst (λ (x : Option Instruction). Moves T i (word_in x).imm y (kind (word_in x).op) t g j) e m)
+    by (Some v) e =
+        let s = subst (λ (x : Option Instruction). Moves T i (word_in x).imm y (kind (word_in x).op) t g j) e m in
         let h : (fact_in (get_or f (n % 2 ^ 8) 0)).height ≡ change_of (kind v.opcode) = ap (λ (a : Fact). a.height) (row_read f ruled n v e) ∙ row_kind v.opcode in
         subst (λ (c : Height). Changes c t g) (sym h) (kind_changes T i _ y (kind v.opcode) t g j s)

@@ -1,8 +1,7 @@
 -- Analysis that passes says that each call passes what its function takes.
 -- Assumes nothing.
-use Rattle.std.specs.Prelude.{◌≡◌, refl, ℕ, zero, suc, eqb, length}
+use Rattle.std.specs.Prelude.{◌≡◌, refl, ℕ, zero, suc, eqb, length, None, Option, Some}
 use Rattle.std.proofs.Common.{sym, ap, subst, ◌∙◌, eqb-true}
-use Rattle.std.proofs.Math.Option.{Option, none, some, some-injective}
 use mathlib.Core.List.{List, [], ◌∷◌}
 use Rattle.std.proofs.lemmas.List.{length-map}
 use Rattle.rules.specs.Bytes.{Name}
@@ -23,7 +22,7 @@ all_some (bad r) f = all_bad r
 
 -- A call of a name takes one number.
 pub takes_one : (fs : List Function) (x : Name) (n m : ℕ) → Takes fs x n → Takes fs x m → n ≡ m
-takes_one fs x n m (f, p, q) (g, r, t) = sym q ∙ ap (λ (h : Function). length h.params) (some-injective f g (sym p ∙ r)) ∙ t
+takes_one fs x n m (f, p, q) (g, r, t) = let e : f ≡ g = cc in sym q ∙ ap (λ (h : Function). length h.params) e ∙ t
 
 length_repeated : (k : ℕ) → length (repeated k) ≡ k
 unfolding repeated
@@ -39,9 +38,9 @@ counted p f k m ps t = all_test (eqb (length ps) k) _ _ (λ e. all_some (fits f 
 passed : (fs : List Function) (p : ℕ) (f : Name) (k : ℕ) (m : Option Misfit) (b : Option Builtin) (o : Option Function) → last function_name f fs ≡ o
     → All (λ (u : Typ). Passes (Takes fs) b f k) (applied p f k m (or_else (mapped (λ (c : Builtin). sig (repeated (arity c)) Typ.u64) b) (mapped sig_of o)))
 unfolding applied or_else mapped sig_of
-passed fs p f k m (some b) o e = all_map (counted p f k m _ _) (λ u q. sym (length_repeated (arity b)) ∙ q)
-passed fs p f k m none none e = all_bad _
-passed fs p f k m none (some g) e = all_map (counted p f k m _ _) (λ u q. (g, e, sym (length-map g.params _) ∙ q))
+passed fs p f k m (Some b) o e = all_map (counted p f k m _ _) (λ u q. sym (length_repeated (arity b)) ∙ q)
+passed fs p f k m None None e = all_bad _
+passed fs p f k m None (Some g) e = all_map (counted p f k m _ _) (λ u q. (g, e, sym (length-map g.params _) ∙ q))
 
 module _ (C : Contract) where
   abbrev takes : Name → ℕ → Type 0

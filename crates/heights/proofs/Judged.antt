@@ -3,8 +3,7 @@
 -- Assumes nothing.
 use Rattle.std.proofs.Math.Path.{◌≡◌, refl, subst}
 use Rattle.std.proofs.Common.{sym, ◌∙◌, inl, inr}
-use Rattle.std.specs.Prelude.{Bool}
-use Rattle.std.proofs.Math.Option.{Option, some}
+use Rattle.std.specs.Prelude.{Bool, Option, Some}
 use mathlib.Core.List.{List, [], ◌∷◌, map}
 use Prim.Native.Nat.{ℕ, zero, suc, ◌+◌, ◌≤◌, ◌<◌}
 use native.Mathlib.Omega.{arith}
@@ -74,7 +73,7 @@ module _ (fs : List Function) (T : List Entry) (mirrors : Mirrors fs T) where
   unfolding distance
   called i n f t = to_entry (by_table fs T mirrors f n t)
     where
-      to_entry : (g : Entry) × (last entry_name f T ≡ some g) × (g.params ≡ n) → (e : ℕ) × Lands i (distance (last entry_name f T) i) e × Starts T e n
+      to_entry : (g : Entry) × (last entry_name f T ≡ Some g) × (g.params ≡ n) → (e : ℕ) × Lands i (distance (last entry_name f T) i) e × Starts T e n
       to_entry (g, u, v) = (
         g.first,
         subst (λ (o : Option Entry). Lands i (distance o i) g.first) (sym u) (lands_less i g.first),

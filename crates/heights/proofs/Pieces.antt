@@ -1,9 +1,8 @@
 -- Each expression's words keep the height, each statement's keep it at one.
 -- Assumes nothing.
-use Rattle.std.specs.Prelude.{◌≡◌}
+use Rattle.std.specs.Prelude.{◌≡◌, None, Option, Some}
 use Rattle.std.proofs.Math.Path.{refl}
 use Rattle.std.proofs.Common.{sym, ap, subst, ◌∙◌, arith}
-use Rattle.std.proofs.Math.Option.{Option, none, some}
 use mathlib.Core.List.{List, [], ◌∷◌, ◌++◌, map, reverse}
 use Prim.Native.Nat.{ℕ, zero, suc, ◌+◌, ◌-◌}
 use Rattle.std.proofs.Math.ListN.{length, length-reverse}
@@ -136,12 +135,12 @@ module _ (takes : Name → ℕ → Type 0) (sole : (f : Name) (n m : ℕ) → ta
     apply_level : (p : ℕ) (f : Name) (n k : ℕ) (m : Res Values) (b : Option Builtin) → Passes takes b f k → All (λ (a : Values). Level a.code × (length a.regs ≡ k)) m
         → All (λ (v : Value). Level v.code) (apply R C p f n m b)
     unfolding apply
-    apply_level p f n k m (some Builtin.poseidon) t e = all_bind m _ e (λ a q. all_next (result R C p n _ _) _ (λ d. all_ok _ (λ h. cat H (q.0 h) (flat _ h (tt, tt)))))
-    apply_level p f n k m (some Builtin.sender) t e = all_next (alloc_reg_lem R C p n) _ (λ d. all_ok _ (λ h. flat _ h (tt, tt)))
-    apply_level p f n k m (some Builtin.nonce) t e = all_next (alloc_reg_lem R C p n) _ (λ d. all_ok _ (λ h. flat _ h (tt, tt)))
-    apply_level p f n k m (some Builtin.block-number) t e = all_next (alloc_reg_lem R C p n) _ (λ d. all_ok _ (λ h. flat _ h (tt, tt)))
-    apply_level p f n k m (some Builtin.merkle) t e = all_bind m _ e (λ a q. all_next (alloc_reg_lem R C p a.next) _ (λ d. all_ok _ (λ h. cat H (q.0 h) (flat _ h (tt, tt)))))
-    apply_level p f n k m none t e = all_bind m _ e (λ a q. all_next (alloc_reg_lem R C p n) _ (λ d. all_ok _ (λ h.
+    apply_level p f n k m (Some Builtin.poseidon) t e = all_bind m _ e (λ a q. all_next (result R C p n _ _) _ (λ d. all_ok _ (λ h. cat H (q.0 h) (flat _ h (tt, tt)))))
+    apply_level p f n k m (Some Builtin.sender) t e = all_next (alloc_reg_lem R C p n) _ (λ d. all_ok _ (λ h. flat _ h (tt, tt)))
+    apply_level p f n k m (Some Builtin.nonce) t e = all_next (alloc_reg_lem R C p n) _ (λ d. all_ok _ (λ h. flat _ h (tt, tt)))
+    apply_level p f n k m (Some Builtin.block-number) t e = all_next (alloc_reg_lem R C p n) _ (λ d. all_ok _ (λ h. flat _ h (tt, tt)))
+    apply_level p f n k m (Some Builtin.merkle) t e = all_bind m _ e (λ a q. all_next (alloc_reg_lem R C p a.next) _ (λ d. all_ok _ (λ h. cat H (q.0 h) (flat _ h (tt, tt)))))
+    apply_level p f n k m None t e = all_bind m _ e (λ a q. all_next (alloc_reg_lem R C p n) _ (λ d. all_ok _ (λ h.
         call_level p f d k (count 1 (n - 1)) a.regs a.code h t q.1 (q.0 (h + length (count 1 (n - 1)))))))
 
     -- So does a number.

@@ -1,8 +1,7 @@
 -- Demand 3 over words as records: every function of an accepted contract obeys the law of heights.
 -- Assumes nothing.
-use Rattle.std.specs.Prelude.{◌≡◌, refl, List, [], ◌++◌, ℕ, suc, ◌+◌, ◌<◌, length}
+use Rattle.std.specs.Prelude.{◌≡◌, refl, List, [], ◌++◌, ℕ, suc, ◌+◌, ◌<◌, length, None, Option, Some}
 use Rattle.std.proofs.Common.{subst, arith}
-use Rattle.std.proofs.Math.Option.{Option, none, some}
 use Rattle.rules.specs.Tables.{last}
 use Rattle.rules.specs.Tree.{Function, Contract}
 use Rattle.rules.specs.Refusal.{ok, ◌>>=◌}
@@ -85,8 +84,8 @@ generated R C q = with (last function_name main fs)
     closed f p = function_closed (Takes fs) (takes_one fs) R C f p
 
     with : (o : Option Function) → All (Obeys fs) (with_main o (functions R C 3 fs >>= λ b. ok (record { words = link b.table 0 (opening R ++ b.code); table = b.table })))
-    with none = all_bad _
-    with (some f) = all_bind (functions R C 3 fs) _ (functions_laid (Good fs) (Takes fs) R C closed 3 fs q) (λ b p. all_ok _ (obeys fs b.table p.1 R b.code p.0))
+    with None = all_bad _
+    with (Some f) = all_bind (functions R C 3 fs) _ (functions_laid (Good fs) (Takes fs) R C closed 3 fs q) (λ b p. all_ok _ (obeys fs b.table p.1 R b.code p.0))
 
 -- Whatever the rules (registers, edition): of a contract that analysis passes, every function obeys the law.
 pub generated_obeys : (R : Rules) (C : Contract) → All (λ u. All (Obeys C.functions) (generate R C)) (analyse C)

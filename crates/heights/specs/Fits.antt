@@ -1,7 +1,6 @@
 -- What generation leans on: each call in a tree passes what its function takes.
 -- Assumes nothing.
-use Rattle.std.proofs.Math.Option.{Option, none, some}
-use Rattle.std.specs.Prelude.{◌≡◌, ℕ, suc}
+use Rattle.std.specs.Prelude.{◌≡◌, ℕ, suc, None, Option, Some}
 use Rattle.rules.specs.Bytes.{Name}
 use Rattle.rules.specs.Tree.{Expr, Exprs, Inits, Stmt, Stmts}
 use Rattle.rules.specs.Builtins.{Builtin, builtin, arity}
@@ -15,8 +14,8 @@ size (Exprs.more e es) = suc (size es)
 module _ (takes : Name → ℕ → Type 0) where
   -- Each call in it passes what its function takes.
   abbrev pub Passes : Option Builtin → Name → ℕ → Type 0
-  Passes (some b) f k = arity b ≡ k
-  Passes none f k = takes f k
+  Passes (Some b) f k = arity b ≡ k
+  Passes None f k = takes f k
 
   unfoldable mutual
     pub Fits : Expr → Type 0

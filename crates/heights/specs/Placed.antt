@@ -1,9 +1,8 @@
 -- Where each function's words stand in the program, and what patching makes of them.
 -- Assumes nothing.
-use Rattle.std.specs.Prelude.{◌≡◌, Bool, true, false, leb}
+use Rattle.std.specs.Prelude.{◌≡◌, Bool, true, false, leb, None, Option, Some}
 use Rattle.std.proofs.Math.Path.{refl, ap, subst}
 use Rattle.std.proofs.Common.{sym, ap₂, ◌∙◌, leb-true, leb-false}
-use Rattle.std.proofs.Math.Option.{Option, none, some, none-ne-some, some-injective}
 use mathlib.Core.List.{List, [], ◌∷◌, ◌++◌}
 use Prim.Native.Nat.{ℕ, zero, suc, ◌+◌, ◌-◌, ◌<◌}
 use native.Mathlib.Omega.{arith}
@@ -45,19 +44,19 @@ lands_less i t = by-test (leb i t) refl
     by-test false e = omega (arith, leb-false i t e)
 
 -- The last of a name is one of the list.
-pub last_at : {A : Type 0} (n : A → Name) (x : Name) (l : List A) (a : A) → last n x l ≡ some a → (k : ℕ) × At l k a
+pub last_at : {A : Type 0} (n : A → Name) (x : Name) (l : List A) (a : A) → last n x l ≡ Some a → (k : ℕ) × At l k a
 unfolding last or_else pick
-last_at n x [] a e = absurd (none-ne-some a e)
+last_at n x [] a e = absurd (let z : ◌≡◌ {A = ℕ} 0 1 = cc in omega arith)
 last_at {A} n x (y ∷ l) a e = by-rest (last n x l) (last_at n x l) refl e
   where
-    by-rest : (o : Option A) → ((b : A) → last n x l ≡ some b → (k : ℕ) × At l k b) → last n x l ≡ o
-        → or_else o (pick (eq_name (n y) x) (some y) none) ≡ some a → (k : ℕ) × At (y ∷ l) k a
-    by-rest (some b) ih p q = let r : (k : ℕ) × At l k a = ih a (p ∙ q) in (suc r.0, r.1)
-    by-rest none ih p q = by-test (eq_name (n y) x) q
+    by-rest : (o : Option A) → ((b : A) → last n x l ≡ Some b → (k : ℕ) × At l k b) → last n x l ≡ o
+        → or_else o (pick (eq_name (n y) x) (Some y) None) ≡ Some a → (k : ℕ) × At (y ∷ l) k a
+    by-rest (Some b) ih p q = let r : (k : ℕ) × At l k a = ih a (p ∙ q) in (suc r.0, r.1)
+    by-rest None ih p q = by-test (eq_name (n y) x) q
       where
-        by-test : (t : Bool) → pick t (some y) none ≡ some a → (k : ℕ) × At (y ∷ l) k a
-        by-test true z = (0, some-injective y a z)
-        by-test false z = absurd (none-ne-some a z)
+        by-test : (t : Bool) → pick t (Some y) None ≡ Some a → (k : ℕ) × At (y ∷ l) k a
+        by-test true z = (0, cc)
+        by-test false z = absurd (let q : ◌≡◌ {A = ℕ} 0 1 = cc in omega arith)
 
 -- The name of an entry.
 abbrev pub entry_name : Entry → Name
@@ -72,19 +71,19 @@ Mirrors (f ∷ fs) (e ∷ T) = (e.place ≡ f.place) × (e.name ≡ f.name) × (
 
 -- Both found nothing, or the same parameters.
 Same : Option Function → Option Entry → Type 0
-Same none none = Unit {0}
-Same none (some e) = ⊥
-Same (some f) none = ⊥
-Same (some f) (some e) = e.params ≡ length f.params
+Same None None = Unit {0}
+Same None (Some e) = ⊥
+Same (Some f) None = ⊥
+Same (Some f) (Some e) = e.params ≡ length f.params
 
 or_same : (o p : Option Function) (q r : Option Entry) → Same o q → Same p r → Same (or_else o p) (or_else q r)
 unfolding Same or_else
-or_same none p none r s t = t
-or_same none p (some e) r s t = absurd s
-or_same (some f) p none r s t = absurd s
-or_same (some f) p (some e) r s t = s
+or_same None p None r s t = t
+or_same None p (Some e) r s t = absurd s
+or_same (Some f) p None r s t = absurd s
+or_same (Some f) p (Some e) r s t = s
 
-pick_same : (b : Bool) (f : Function) (e : Entry) → e.params ≡ length f.params → Same (pick b (some f) none) (pick b (some e) none)
+pick_same : (b : Bool) (f : Function) (e : Entry) → e.params ≡ length f.params → Same (pick b (Some f) None) (pick b (Some e) None)
 unfolding Same pick
 pick_same true f e p = p
 pick_same false f e p = tt
@@ -97,17 +96,17 @@ last_same x [] (e ∷ T) m = absurd m
 last_same x (f ∷ fs) [] m = absurd m
 last_same x (f ∷ fs) (e ∷ T) m =
     or_same (last function_name x fs) _ (last entry_name x T) _ (last_same x fs T m.3)
-    (subst (λ (k : Name). Same (pick (eq_name f.name x) (some f) none) (pick (eq_name k x) (some e) none)) (sym m.1) (pick_same (eq_name f.name x) f e m.2))
+    (subst (λ (k : Name). Same (pick (eq_name f.name x) (Some f) None) (pick (eq_name k x) (Some e) None)) (sym m.1) (pick_same (eq_name f.name x) f e m.2))
 
 -- What a function takes by the contract, it takes by the table.
 pub by_table : (fs : List Function) (T : List Entry) → Mirrors fs T → (x : Name) (n : ℕ) → Takes fs x n
-    → (e : Entry) × (last entry_name x T ≡ some e) × (e.params ≡ n)
+    → (e : Entry) × (last entry_name x T ≡ Some e) × (e.params ≡ n)
 unfolding Same
 by_table fs T m x n (f, p, q) = found (last entry_name x T) refl (subst (λ (o : Option Function). Same o (last entry_name x T)) p (last_same x fs T m))
   where
-    found : (o : Option Entry) → last entry_name x T ≡ o → Same (some f) (last entry_name x T) → (e : Entry) × (last entry_name x T ≡ some e) × (e.params ≡ n)
-    found none e s = absurd (subst (Same (some f)) e s)
-    found (some d) e s = (d, e, subst (Same (some f)) e s ∙ q)
+    found : (o : Option Entry) → last entry_name x T ≡ o → Same (Some f) (last entry_name x T) → (e : Entry) × (last entry_name x T ≡ Some e) × (e.params ≡ n)
+    found None e s = absurd (subst (Same (Some f)) e s)
+    found (Some d) e s = (d, e, subst (Same (Some f)) e s ∙ q)
 
 -- The entry of a function, at its index.
 pub mirrored : (fs : List Function) (T : List Entry) → Mirrors fs T → (k : ℕ) (f : Function) → At fs k f

@@ -1,5 +1,6 @@
 -- What each way that a turn of the check's loop goes comes to.
 -- Assumes nothing.
+use Rattle.std.specs.Prelude.{}
 use mathlib.Core.Path.{◌≡◌, ◌∙◌, refl, sym, ap, subst}
 use mathlib.Core.Bool.{Bool, true, false, not}
 use mathlib.Core.List.{List}
@@ -11,8 +12,7 @@ use lib.ListN.{get_or}
 use Rattle.rules.specs.Bytes.{pick, le32, kind_at, end_at, ◌or◌, ◌and◌}
 use Rattle.rules.specs.Grammar.{class_of}
 use Rattle.rules.specs.Check.{unframed, counts, own_of, header_of, refusal_of, vars_in_lem, ended, record_of}
-use Rattle.rules.specs.declared.Seen.{Seen}
-use Rattle.rules.specs.declared.Seen.TheVariants.{Sound, Fault}
+use Rattle.rules.specs.Seen.{Seen, Sound, Fault}
 use Rattle.image.specs.Leaves.{leaf}
 use Rattle.image.specs.Rows.{dues_of, further, full, off, inner}
 use Rattle.image.specs.Within.{parts_in, short, first_of, fault_of, Told, Parts}

@@ -1,5 +1,6 @@
 -- Sound parts reach the record's end; so the last part of a record that ends where the record does decides alone.
 -- Assumes nothing.
+use Rattle.std.specs.Prelude.{}
 use mathlib.Core.Path.{◌≡◌, ◌∙◌, refl, sym, ap}
 use mathlib.Core.Bool.{Bool, true, false}
 use mathlib.Core.List.{List}
@@ -8,8 +9,7 @@ use lib.Dec.{eqb}
 use Rattle.rules.specs.Bytes.{pick}
 use Rattle.rules.specs.Grammar.{due_at}
 use Rattle.rules.specs.Check.{ended, Child, and_then, children_of}
-use Rattle.rules.specs.declared.Seen.{Seen}
-use Rattle.rules.specs.declared.Seen.TheVariants.{Sound, Fault}
+use Rattle.rules.specs.Seen.{Seen, Sound, Fault}
 
 abbrev pub Reaches : ℕ → Seen → Type 0
 Reaches end (Sound q m) = q ≡ end

@@ -1,5 +1,6 @@
 -- The steps of the check of a record: what its definition says at each way that the code goes.
 -- Assumes nothing.
+use Rattle.std.specs.Prelude.{}
 use mathlib.Core.Path.{◌≡◌, ◌∙◌, refl, sym, subst}
 use mathlib.Core.Bool.{Bool, true, false}
 use mathlib.Core.List.{List, []}
@@ -10,7 +11,7 @@ use lib.Dec.{T, eqb, ltb}
 use Rattle.rules.specs.Bytes.{pick, kind_at, end_at, ◌or◌}
 use Rattle.rules.specs.Grammar.{class_of, expressions, parts_of, part_of, due_at}
 use Rattle.rules.specs.Check.{undue, counts, header_of, refusal_of, vars_in_lem, start_of, ended, Child, and_then, children_of, record_by, record_of}
-use Rattle.rules.specs.declared.Seen.TheVariants.{Sound, Fault}
+use Rattle.rules.specs.Seen.{Sound, Fault}
 use Rattle.image.specs.Leaves.{leaf}
 use Rattle.image.specs.Within.{parts_in}
 use Rattle.image.proofs.Every.{by_cases}

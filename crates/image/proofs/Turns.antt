@@ -1,5 +1,6 @@
 -- The turns of the check of a record's parts: what its definition says at each way that a turn of the loop goes.
 -- Assumes nothing.
+use Rattle.std.specs.Prelude.{}
 use mathlib.Core.Path.{◌≡◌, ◌∙◌, refl, sym, ap, subst}
 use mathlib.Core.Bool.{Bool, true, false, not}
 use mathlib.Core.List.{List}
@@ -10,8 +11,7 @@ use lib.Dec.{eqb, leb, ltb}
 use Rattle.rules.specs.Bytes.{pick, le32, kind_at, end_at, ◌or◌, ◌and◌}
 use Rattle.rules.specs.Grammar.{class_of, due_at}
 use Rattle.rules.specs.Check.{unframed, undue, counts, crowded, own_of, header_of, refusal_of, ended, and_then, children_of, record_of}
-use Rattle.rules.specs.declared.Seen.{Seen}
-use Rattle.rules.specs.declared.Seen.TheVariants.{Sound, Fault}
+use Rattle.rules.specs.Seen.{Seen, Sound, Fault}
 use Rattle.image.specs.Rows.{dues_of, further, full, off, Right}
 use Rattle.image.specs.Within.{parts_in, short, first_of, fault_of, Told}
 use Rattle.image.proofs.Dues.{due_below, due_first, due_rest, due_full}

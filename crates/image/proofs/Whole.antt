@@ -1,5 +1,6 @@
 -- The check of a whole image: what its definition says at each way that the code goes.
 -- Assumes nothing.
+use Rattle.std.specs.Prelude.{}
 use mathlib.Core.Path.{◌≡◌, ◌∙◌, refl, sym, ap}
 use mathlib.Core.Bool.{true, false}
 use mathlib.Core.List.{List}
@@ -10,8 +11,7 @@ use lib.ListN.{length}
 use Rattle.rules.specs.Bytes.{pick, le32, kind_at}
 use Rattle.rules.specs.Grammar.{Contract, class_of}
 use Rattle.rules.specs.Check.{unframed, undue, counts, crowded, own_of, header_of, refusal_of, vars_in_lem, record_of, whole_of, check_of}
-use Rattle.rules.specs.declared.Seen.{Seen}
-use Rattle.rules.specs.declared.Seen.TheVariants.{Sound, Fault}
+use Rattle.rules.specs.Seen.{Seen, Sound, Fault}
 use Rattle.image.specs.Leaves.{leaf}
 use Rattle.image.specs.Within.{parts_in}
 use Rattle.image.proofs.Header.{refuse_0, refuse_2, refuse_3}

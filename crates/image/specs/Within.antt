@@ -3,8 +3,7 @@
 use Rattle.std.specs.Prelude.{ℕ, suc, ◌+◌, ◌-◌, ◌*◌, ◌≤◌, ◌<◌, List, ◌≡◌, Bool, eqb, ltb}
 use Rattle.rules.specs.Bytes.{pick, ◌or◌}
 use Rattle.rules.specs.Check.{children_of, record_of}
-use Rattle.rules.specs.declared.Seen.{Seen}
-use Rattle.rules.specs.declared.Seen.TheVariants.{Sound, Fault}
+use Rattle.rules.specs.Seen.{Seen, Sound, Fault}
 use Rattle.image.specs.Rows.{dues_of}
 
 -- All the parts, from the first on, of a record of kind k where d was due.

@@ -224,23 +224,23 @@ pub fn check(image: &[u8]) -> Seen
     ensures { result ≡ check_of image.now }
 {
     if 65536 < image.len() {
-        return Seen::Fault(1, 0);
+        return Err((1, 0));
     }
     if no_frame(image, 0, image.len()) {
-        return Seen::Fault(2, 0);
+        return Err((2, 0));
     }
     if half(image, 4) != 16 {
-        return Seen::Fault(3, 0);
+        return Err((3, 0));
     }
     let next = 4 + word(image, 0);
     let t = TABLE;
     let r = check_record(image, &t, 6, next, 63, CONTRACT_PARTS, 0);
     if MANY <= r {
-        return Seen::Fault(r / PARTS, r % PARTS);
+        return Err((r / PARTS, r % PARTS));
     }
     if next < image.len() {
-        Seen::Fault(4, next)
+        Err((4, next))
     } else {
-        Seen::Sound(next, r)
+        Ok((next, r))
     }
 }

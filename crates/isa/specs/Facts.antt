@@ -1,17 +1,13 @@
 -- What is known of each low byte (02: P7), and words read by a table that says it.
 -- Assumes nothing.
-use Rattle.std.specs.Prelude.{◌≡◌, ℕ, ◌/◌, ◌%◌, ◌^◌, ◌<◌, Bool, true, false, cond, List, [], ◌∷◌, ◌==◌, slice_index, slice_index_or}
+use Rattle.std.specs.Prelude.{◌≡◌, ℕ, ◌/◌, ◌%◌, ◌^◌, ◌<◌, Bool, true, false, cond, List, [], ◌∷◌, ◌==◌, slice_index, slice_index_or, None, Option, Some}
 use Rattle.isa.specs.declared.Opcode.{Opcode}
 use Rattle.isa.specs.declared.Opcode.TheVariants.{Halt, Add, Sub, Mul, Div, Inv, And, Or, Xor, Not, Eq, Neq, Lt, Gt, Lte, Gte, Jmp, Jnz, Call, Ret, Load, Store, Push, Pop, Assert, Poseidon, Log, SRead, SWrite, Syscall, VerifyMerkle}
-use Rattle.isa.specs.declared.Op.{Op}
-use Rattle.isa.specs.declared.Op.TheVariants.{Known, Unknown}
 use Rattle.isa.specs.declared.Height.{Height}
 use Rattle.isa.specs.declared.Height.TheVariants as height
 use Rattle.isa.specs.declared.Height.TheVariants.{Same, Up, Down}
 use Rattle.isa.specs.declared.Fact.{Fact}
-use Rattle.isa.specs.declared.Encoded.{Encoded}
-use Rattle.isa.specs.declared.Decoded.{Decoded}
-use Rattle.isa.specs.declared.Fields.{Fields}
+use Rattle.isa.specs.declared.Instruction.{Instruction}
 use Rattle.isa.specs.Word.{opcodes, opcode_of, read_as_lem, alone, patch_as}
 
 -- 02: P7: what is known of an opcode: rd, rs1, rs2, imm, height
@@ -54,9 +50,9 @@ row_of Syscall = row true false false true Same
 row_of VerifyMerkle = row true true true true Same
 
 -- 02: P7: what is known of a byte; of what is no opcode, nothing
-unfoldable pub fact_of : Op → Fact
-fact_of (Known o) = row_of o
-fact_of Unknown = record { known = false; rd = false; rs1 = false; rs2 = false; imm = false; height = Same }
+unfoldable pub fact_of : Option Opcode → Fact
+fact_of (Some o) = row_of o
+fact_of None = record { known = false; rd = false; rs1 = false; rs2 = false; imm = false; height = Same }
 
 -- 02: P7: bits 5 to 7 of an entry: the change of the height
 unfoldable pub height_in : ℕ → Height
@@ -72,17 +68,17 @@ pub record Ruled (t : List ℕ) : Type 0 where
   pub says : (n : ℕ) → n < 256 → fact_in (slice_index t n) ≡ fact_of (opcode_of n)
 
 -- 003: decode_any, the match, where a table tells which bytes are opcodes
-unfoldable pub opcode_by : List ℕ → ℕ → Op
-opcode_by t n = cond (fact_in (slice_index t n)).known (Known (slice_index_or opcodes n VerifyMerkle)) Unknown
+unfoldable pub opcode_by : List ℕ → ℕ → Option Opcode
+opcode_by t n = cond (fact_in (slice_index t n)).known (Some (slice_index_or opcodes n VerifyMerkle)) None
 
 -- 02: P3: a word read by it
-unfoldable pub decode_by : List ℕ → ℕ → Decoded
+unfoldable pub decode_by : List ℕ → ℕ → Option (Instruction × ℕ)
 decode_by t w = read_as_lem w (opcode_by t (w % 2 ^ 8))
 
 -- 003: decode_any, likewise
-unfoldable pub decode_any_by : List ℕ → ℕ → Fields
+unfoldable pub decode_any_by : List ℕ → ℕ → Option Instruction
 decode_any_by t w = alone (decode_by t w)
 
 -- 000: patch_jump, likewise
-unfoldable pub patch_by : List ℕ → ℕ → ℕ → Encoded
+unfoldable pub patch_by : List ℕ → ℕ → ℕ → Option ℕ
 patch_by t w k = patch_as k (decode_by t w)

@@ -1,19 +1,15 @@
 -- Laws of a table that says what is known of each low byte (02: P7): the decisions that it replaces come out as before.
 -- Assumes nothing.
-use Rattle.std.specs.Prelude.{◌≡◌, ℕ, zero, suc, ◌+◌, ◌*◌, ◌/◌, ◌%◌, ◌^◌, ◌<◌, ◌≤◌, Bool, true, false, cond, T, List, [], ◌∷◌, length, get_or, ◌==◌, ◌≢◌, nat_eq, nat_lt, slice_index, slice_index_or, refl}
+use Rattle.std.specs.Prelude.{◌≡◌, ℕ, zero, suc, ◌+◌, ◌*◌, ◌/◌, ◌%◌, ◌^◌, ◌<◌, ◌≤◌, Bool, true, false, cond, T, List, [], ◌∷◌, length, get_or, ◌==◌, ◌≢◌, nat_eq, nat_lt, slice_index, slice_index_or, refl, None, Option, Some}
 use Rattle.std.proofs.Common.{sym, ap, ◌∙◌, arith, eqb→eq, ltb-true, ltb-false, eqb-true}
 use Rattle.std.proofs.Math.ListN.{get_or-eq_default}
 use Rattle.std.proofs.lemmas.Bool.{eqb-false}
 use Rattle.isa.specs.declared.Opcode.{Opcode}
 use Rattle.isa.specs.declared.Opcode.TheVariants.{Halt, VerifyMerkle}
-use Rattle.isa.specs.declared.Op.TheVariants.{Known, Unknown}
 use Rattle.isa.specs.declared.Height.{Height}
 use Rattle.isa.specs.declared.Height.TheVariants.{Same, Up, Down, Call, Ret}
 use Rattle.isa.specs.declared.Fact.{Fact}
 use Rattle.isa.specs.declared.Instruction.{Instruction}
-use Rattle.isa.specs.declared.Decoded.{Decoded}
-use Rattle.isa.specs.declared.Decoded.TheVariants.{Read, Refused}
-use Rattle.isa.specs.declared.Fields.TheVariants as fields
 use Rattle.isa.specs.Word.{number_of, opcodes, opcode_of, read_as_lem, decode_of, alone, decode_any_of, patch_as, patch_of}
 use Rattle.isa.specs.Facts.{row_of, fact_of, height_in, fact_in, Ruled, opcode_by, decode_by, decode_any_by, patch_by}
 use Rattle.isa.specs.Every.{every, every_at}
@@ -119,13 +115,13 @@ unfolding fact_of
 row_at t r o = r.says (number_of o) (omega (arith, number_below o)) ∙ ap fact_of (opcode_number o)
 
 -- Of a word that is read, its opcode's.
-pub row_read : (t : List ℕ) → Ruled t → (w : ℕ) (i : Instruction) → decode_any_of w ≡ fields.Known i → fact_in (slice_index t (w % 2 ^ 8)) ≡ row_of i.opcode
+pub row_read : (t : List ℕ) → Ruled t → (w : ℕ) (i : Instruction) → decode_any_of w ≡ Some i → fact_in (slice_index t (w % 2 ^ 8)) ≡ row_of i.opcode
 unfolding decode_any_of
 row_read t r w i q = by (decode_of w) refl q
   where
-    by : (d : Decoded) → decode_of w ≡ d → alone d ≡ fields.Known i → fact_in (slice_index t (w % 2 ^ 8)) ≡ row_of i.opcode
-    by Refused e f = absurd (let z : ◌≡◌ {A = ℕ} 0 1 = cc in omega arith)
-    by (Read j u) e f =
+    by : (d : Option (Instruction × ℕ)) → decode_of w ≡ d → alone d ≡ Some i → fact_in (slice_index t (w % 2 ^ 8)) ≡ row_of i.opcode
+    by None e f = absurd (let z : ◌≡◌ {A = ℕ} 0 1 = cc in omega arith)
+    by (Some (j, u)) e f =
         let p : j ≡ i = cc in
         ap (λ (n : ℕ). fact_in (slice_index t n)) (sym (decodes w j u e).opcode) ∙ row_at t r j.opcode ∙ ap (λ (k : Instruction). row_of k.opcode) p
 
@@ -134,7 +130,7 @@ pub known_at : (t : List ℕ) → Ruled t → (n : ℕ) → n < 256 → (fact_in
 unfolding fact_of opcode_of
 known_at t r n h = ap (λ (f : Fact). f.known) (r.says n h) ∙ by (nat_lt n 31)
   where
-    by : (b : Bool) → (fact_of (cond b (Known (slice_index_or opcodes n Halt)) Unknown)).known ≡ b
+    by : (b : Bool) → (fact_of (cond b (Some (slice_index_or opcodes n Halt)) None)).known ≡ b
     by true = row_known (slice_index_or opcodes n Halt)
     by false = refl
 
@@ -162,10 +158,10 @@ listed (x ∷ l) (suc n) a b h = listed l n a b (omega arith)
 -- 02: P7: by a ruled table each decision is as it is defined: the opcode of a byte, a word read, its fields alone, a patch.
 pub opcode_by_lem : (t : List ℕ) → Ruled t → (n : ℕ) → n < 256 → opcode_by t n ≡ opcode_of n
 unfolding opcode_by opcode_of
-opcode_by_lem t r n h = ap (λ (b : Bool). cond b (Known (slice_index_or opcodes n VerifyMerkle)) Unknown) (known_at t r n h) ∙ by (nat_lt n 31) refl
+opcode_by_lem t r n h = ap (λ (b : Bool). cond b (Some (slice_index_or opcodes n VerifyMerkle)) None) (known_at t r n h) ∙ by (nat_lt n 31) refl
   where
-    by : (b : Bool) → nat_lt n 31 ≡ b → cond b (Known (slice_index_or opcodes n VerifyMerkle)) Unknown ≡ cond b (Known (slice_index_or opcodes n Halt)) Unknown
-    by true e = ap Known (listed opcodes n VerifyMerkle Halt (ltb-true n 31 e))
+    by : (b : Bool) → nat_lt n 31 ≡ b → cond b (Some (slice_index_or opcodes n VerifyMerkle)) None ≡ cond b (Some (slice_index_or opcodes n Halt)) None
+    by true e = ap Some (listed opcodes n VerifyMerkle Halt (ltb-true n 31 e))
     by false e = refl
 
 pub decode_by_lem : (t : List ℕ) → Ruled t → (w : ℕ) → decode_by t w ≡ decode_of w

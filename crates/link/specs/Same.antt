@@ -2,13 +2,10 @@
 --     Placed       which first words F has: those of the table T, whose entries are the functions fs in turn
 --     same         what is linked is the numbers of rules' `link`
 -- Assumes nothing.
-use Rattle.std.specs.Prelude.{◌≡◌, Bool, true, false, ℕ, suc, ◌+◌, ◌-◌, ◌*◌, ◌/◌, ◌%◌, ◌^◌, ◌<◌, ◌≤◌, leb, length, get_or}
+use Rattle.std.specs.Prelude.{◌≡◌, Bool, true, false, ℕ, suc, ◌+◌, ◌-◌, ◌*◌, ◌/◌, ◌%◌, ◌^◌, ◌<◌, ◌≤◌, leb, length, get_or, None, Option, Some}
 use Rattle.std.proofs.Math.Path.{refl, ap}
 use Rattle.std.proofs.Common.{subst, ◌∙◌, arith, leb-true, leb-false, le-leb, lt-ltb, le-ltb}
-use Rattle.std.proofs.Math.Option.{Option, none, some}
 use mathlib.Core.List.{List, [], ◌∷◌, map}
-use Rattle.isa.specs.declared.Encoded.{Encoded}
-use Rattle.isa.specs.declared.Encoded.TheVariants as encoded
 use Rattle.isa.specs.declared.Instruction.{Instruction}
 use Rattle.isa.specs.declared.Opcode.{Opcode}
 use Rattle.isa.specs.declared.Opcode.TheVariants as op
@@ -37,22 +34,22 @@ Placed F j (f ∷ fs) (e ∷ T) = (e.name ≡ f.name) × ((j < length F) × ((ge
 
 -- What two look-ups found: the same function, by its index and in the table.
 data Agree (F : List ℕ) : Option ℕ → Option Entry → Type 0 where
-  both : (k : ℕ) (e : Entry) → k < length F → get_or F k 0 ≡ e.first → e.first < 2 ^ 32 → Agree F (some k) (some e)
-  neither : Agree F none none
+  both : (k : ℕ) (e : Entry) → k < length F → get_or F k 0 ≡ e.first → e.first < 2 ^ 32 → Agree F (Some k) (Some e)
+  neither : Agree F None None
 
 agree_else : {F : List ℕ} {a b : Option ℕ} {x y : Option Entry} → Agree F a x → Agree F b y → Agree F (or_else a b) (or_else x y)
 unfolding or_else
 agree_else (both k e h g l) q = both k e h g l
 agree_else neither q = q
 
-agree_pick : {F : List ℕ} (t : Bool) (k : ℕ) (e : Entry) → k < length F → get_or F k 0 ≡ e.first → e.first < 2 ^ 32 → Agree F (pick t (some k) none) (pick t (some e) none)
+agree_pick : {F : List ℕ} (t : Bool) (k : ℕ) (e : Entry) → k < length F → get_or F k 0 ≡ e.first → e.first < 2 ^ 32 → Agree F (pick t (Some k) None) (pick t (Some e) None)
 unfolding pick
 agree_pick true k e h g l = both k e h g l
 agree_pick false k e h g l = neither
 
 agree_here : {F : List ℕ} (k : ℕ) (f : Function) (e : Entry) (x : Name) → e.name ≡ f.name → k < length F → get_or F k 0 ≡ e.first → e.first < 2 ^ 32
-    → Agree F (pick (eq_name f.name x) (some k) none) (pick (eq_name e.name x) (some e) none)
-agree_here {F} k f e x q h g l = subst (λ (n : Name). Agree F (pick (eq_name n x) (some k) none) (pick (eq_name e.name x) (some e) none)) q (agree_pick (eq_name e.name x) k e h g l)
+    → Agree F (pick (eq_name f.name x) (Some k) None) (pick (eq_name e.name x) (Some e) None)
+agree_here {F} k f e x q h g l = subst (λ (n : Name). Agree F (pick (eq_name n x) (Some k) None) (pick (eq_name e.name x) (Some e) None)) q (agree_pick (eq_name e.name x) k e h g l)
 
 agrees : (F : List ℕ) (j : ℕ) (fs : List Function) (T : List Entry) (x : Name) → Placed F j fs T
     → Agree F (last_index (λ (f : Function). f.name) j x fs) (last (λ (e : Entry). e.name) x T)
@@ -79,10 +76,10 @@ word_cut : (o : Opcode) (d a b i k : ℕ) → i % 2 ^ 32 ≡ k % 2 ^ 32 → word
 unfolding word_of
 word_cut o d a b i k e = rw e refl
 
-zero_all : (P : ℕ → Type 0) → P 0 → (n : Encoded) → ((w : ℕ) → n ≡ encoded.Word w → P w) → P (or_zero n)
+zero_all : (P : ℕ → Type 0) → P 0 → (n : Option ℕ) → ((w : ℕ) → n ≡ Some w → P w) → P (or_zero n)
 unfolding or_zero
-zero_all P z (encoded.Word w) h = h w refl
-zero_all P z encoded.NoWord h = z
+zero_all P z (Some w) h = h w refl
+zero_all P z None h = z
 
 -- No word has top bits, and each has an opcode.
 module _ (o : Opcode) (d a b i : ℕ) where
@@ -107,11 +104,11 @@ linked_call F i k h =
 linked_open : (F : List ℕ) (i : ℕ) (a : Option ℕ) (x : Option Entry) → Agree F a x → length F ≤ 256 → i < 2 ^ 32
     → linked F i (call_of (or_first a)) ≡ word_of op.Call 0 0 0 (bits_of (distance x i))
 unfolding or_first distance distance_to pick bits_of
-linked_open F i (some k) (some e) (both _ _ h g l) f s =
+linked_open F i (Some k) (Some e) (both _ _ h g l) f s =
     linked_call F i k (omega arith) ∙ word_cut op.Call 0 0 0 _ _ (ap (λ (n : ℕ). n % 2 ^ 32) (rw (lt-ltb _ _ h, g) (bits_less e.first i l s)))
-linked_open F i none (some e) x8 f s = elim x8 [ ]
-linked_open F i (some k) none x7 f s = elim x7 [ ]
-linked_open F i none none neither f s = linked_call F i 256 (omega arith) ∙ rw (le-ltb _ _ f) refl
+linked_open F i None (Some e) x8 f s = elim x8 [ ]
+linked_open F i (Some k) None x7 f s = elim x7 [ ]
+linked_open F i None None neither f s = linked_call F i 256 (omega arith) ∙ rw (le-ltb _ _ f) refl
 
 module _ (C : Contract) (F : List ℕ) (T : List Entry) (few : length F ≤ 256) (placed : Placed F 0 C.functions T) where
   one : (i : ℕ) (o : Open) → i < 2 ^ 32 → linked F i (raw C o) ≡ cut (patch T i o)

@@ -1,7 +1,7 @@
 -- The names in scope, an entry at a time.
+use Rattle.std.specs.Prelude.{None, Some}
 use mathlib.Core.Bool.{Bool, true, false}
 use mathlib.Core.List.{List, []}
-use mathlib.Core.Option.{none, some}
 use mathlib.Core.Path.{◌≡◌, refl, sym, ap, ◌∙◌}
 use Prim.Native.Nat.{ℕ, zero, suc, ◌+◌, ◌-◌, ◌*◌, ◌/◌, ◌%◌, ◌≤◌, ◌<◌}
 use native.Mathlib.Omega.{arith}
@@ -23,7 +23,7 @@ module _ (x a : Name) (t : Typ) (Γ : Env) where
   listed : Bool → Env
   listed b = pick b (with_name a t Γ) Γ
 
-  pub here : (c : ℕ) → c ≡ key_of x → eq_name a x ≡ true → find x (pick (eqb c (key_of a)) (with_name a t Γ) Γ) ≡ some t
+  pub here : (c : ℕ) → c ≡ key_of x → eq_name a x ≡ true → find x (pick (eqb c (key_of a)) (with_name a t Γ) Γ) ≡ Some t
   unfolding find pick
   here c h e = rw (eq-eqb c (key_of a) (h ∙ ap key_of (sym (name_eq a x e)))) (rw e)
 
@@ -61,7 +61,7 @@ module _ (img env : List ℕ) where
 
   module _ (x : Name) (k : ℕ) where
     pub find_hit : 2 ≤ k → get_or env (k - 2) 0 ≡ key_of x → eq_name (name_at img (place_in (get_or env (k - 2 + 1) 0))) x ≡ true
-        → find x (env_of img env k) ≡ some (type_beside img (get_or env (k - 2 + 1) 0))
+        → find x (env_of img env k) ≡ Some (type_beside img (get_or env (k - 2 + 1) 0))
     find_hit h q e = rw (env_more k h) (here x _ _ _ _ q e)
 
     pub find_miss : 2 ≤ k → eq_name (name_at img (place_in (get_or env (k - 2 + 1) 0))) x ≡ false → find x (env_of img env k) ≡ find x (env_of img env (k - 2))
@@ -70,7 +70,7 @@ module _ (img env : List ℕ) where
     pub find_other : 2 ≤ k → (get_or env (k - 2) 0 ≡ key_of x → ⊥) → find x (env_of img env k) ≡ find x (env_of img env (k - 2))
     find_other h n = rw (env_more k h) (no_key x _ _ _ _ n)
 
-    pub find_none : k < 2 → find x (env_of img env k) ≡ none
+    pub find_none : k < 2 → find x (env_of img env k) ≡ None
     unfolding find
     find_none h = rw (env_none k h)
 

@@ -1,7 +1,7 @@
 -- What the tables of a contract give, from the places that the code finds.
+use Rattle.std.specs.Prelude.{Option, None, Some}
 use mathlib.Core.Bool.{Bool, true, false}
 use mathlib.Core.List.{List, [], ◌∷◌, map}
-use mathlib.Core.Option.{Option, none, some}
 use mathlib.Core.Path.{◌≡◌, refl, sym, ap, ◌∙◌}
 use Prim.Native.Nat.{ℕ, zero, suc, ◌-◌, ◌≤◌, ◌<◌}
 use native.Mathlib.Numerals.{sub-one}
@@ -25,10 +25,10 @@ unfolding last mapped or_else pick
 last_map f n m e x [] = refl
 last_map f n m e x (p ∷ ps) = rw (last_map f n m e x ps, e p) (or_map f (last m x ps) (eq_name (m p) x) p)
   where
-    or_map : {A : Type 0} (f : ℕ → A) (o : Option ℕ) (b : Bool) (p : ℕ) → or_else (mapped f o) (pick b (some (f p)) none) ≡ mapped f (or_else o (pick b (some p) none))
-    or_map f (some a) b p = refl
-    or_map f none true p = refl
-    or_map f none false p = refl
+    or_map : {A : Type 0} (f : ℕ → A) (o : Option ℕ) (b : Bool) (p : ℕ) → or_else (mapped f o) (pick b (Some (f p)) None) ≡ mapped f (or_else o (pick b (Some p) None))
+    or_map f (Some a) b p = refl
+    or_map f None true p = refl
+    or_map f None false p = refl
 
 module _ (img : List ℕ) where
   pub field_name_lem : (p : ℕ) → field_name (field_at img p) ≡ name_in img p
@@ -37,8 +37,8 @@ module _ (img : List ℕ) where
 
   map_field : (o : Option ℕ) → mapped (λ (f : Field). type_named f.type) (mapped (field_at img) o) ≡ mapped (type_in img) o
   unfolding mapped field_at
-  map_field (some p) = refl
-  map_field none = refl
+  map_field (Some p) = refl
+  map_field None = refl
 
   pub field_last : (x : Name) (s : ℕ) {o : Option ℕ} → o ≡ last (name_in img) x (places_in 64 img (second img s)) → mapped (type_in img) o ≡ field_type_lem x (struct_at img s)
   unfolding field_type_lem struct_at fields_at
@@ -71,7 +71,7 @@ unfolding repeated
 count_repeated zero = refl
 count_repeated (suc k) = ap suc (count_repeated k)
 
-pub repeated_first : (k : ℕ) → (k ≡ 0 → ⊥) → some Typ.u64 ≡ nth 0 (repeated k)
+pub repeated_first : (k : ℕ) → (k ≡ 0 → ⊥) → Some Typ.u64 ≡ nth 0 (repeated k)
 unfolding repeated nth
 repeated_first zero h = absurd (h refl)
 repeated_first (suc k) h = refl
@@ -85,33 +85,33 @@ repeated_rest (suc k) h = rw (sub-one)
 abbrev builtin_sig : Builtin → Sig
 builtin_sig b = sig (repeated (arity b)) Typ.u64
 
-some_arity : (o : Option Builtin) (u : Option Sig) {k : ℕ} → some k ≡ mapped arity o → some (sig (repeated k) Typ.u64) ≡ or_else (mapped builtin_sig o) u
+some_arity : (o : Option Builtin) (u : Option Sig) {k : ℕ} → Some k ≡ mapped arity o → Some (sig (repeated k) Typ.u64) ≡ or_else (mapped builtin_sig o) u
 unfolding or_else mapped
-some_arity (some b) u {k} h = let e : k ≡ arity b = cc in rw e
-some_arity none u h = absurd (let z : ◌≡◌ {A = ℕ} 0 1 = cc in omega arith)
+some_arity (Some b) u {k} h = let e : k ≡ arity b = cc in rw e
+some_arity None u h = absurd (let z : ◌≡◌ {A = ℕ} 0 1 = cc in omega arith)
 
-none_arity : (o : Option Builtin) (u : Option Sig) → none ≡ mapped arity o → or_else (mapped builtin_sig o) u ≡ u
+none_arity : (o : Option Builtin) (u : Option Sig) → None ≡ mapped arity o → or_else (mapped builtin_sig o) u ≡ u
 unfolding or_else mapped
-none_arity (some b) u h = absurd (let z : ◌≡◌ {A = ℕ} 0 1 = cc in omega arith)
-none_arity none u h = refl
+none_arity (Some b) u h = absurd (let z : ◌≡◌ {A = ℕ} 0 1 = cc in omega arith)
+none_arity None u h = refl
 
 module _ (C : Contract) (x : Name) where
-  pub sig_builtin : {k : ℕ} → some k ≡ mapped arity (builtin x) → some (sig (repeated k) Typ.u64) ≡ signature C x
+  pub sig_builtin : {k : ℕ} → Some k ≡ mapped arity (builtin x) → Some (sig (repeated k) Typ.u64) ≡ signature C x
   unfolding signature
   sig_builtin h = some_arity (builtin x) _ h
 
-  pub sig_user : {f : Function} → none ≡ mapped arity (builtin x) → some f ≡ last function_name x C.functions → some (sig_of f) ≡ signature C x
+  pub sig_user : {f : Function} → None ≡ mapped arity (builtin x) → Some f ≡ last function_name x C.functions → Some (sig_of f) ≡ signature C x
   unfolding signature mapped
   sig_user h k = sym (none_arity (builtin x) _ h ∙ rw (← k))
 
-  pub sig_none : none ≡ mapped arity (builtin x) → none ≡ last function_name x C.functions → none ≡ signature C x
+  pub sig_none : None ≡ mapped arity (builtin x) → None ≡ last function_name x C.functions → None ≡ signature C x
   unfolding signature mapped
   sig_none h k = sym (none_arity (builtin x) _ h ∙ rw (← k))
 
-pub clash_at : {o : Option Typ} {e : Typ} {b : Bool} (t : Typ) → some e ≡ o → b ≡ clash e t → b ≡ clashes o t
+pub clash_at : {o : Option Typ} {e : Typ} {b : Bool} (t : Typ) → Some e ≡ o → b ≡ clash e t → b ≡ clashes o t
 unfolding clashes
 clash_at t h k = rw (← h) k
 
-pub clash_past : {o : Option Typ} (t : Typ) → none ≡ o → false ≡ clashes o t
+pub clash_past : {o : Option Typ} (t : Typ) → None ≡ o → false ≡ clashes o t
 unfolding clashes
 clash_past t h = rw (← h)

@@ -1,10 +1,9 @@
 -- What the answers of the code stand for: a place stands for the name there.
---     ty_of where_of got_of sig_at due_of misfit_of     types, places, parameters
+--     ty_of got_of sig_at due_of misfit_of     types, places, parameters
 --     env_of                                       the names in scope that an array holds
 --     fault_of typed_of checked_of                   refusals with all that the Rust's text says
 -- Assumes nothing.
-use Rattle.std.specs.Prelude.{Bool, List, [], map, ℕ, zero, suc, ◌+◌, ◌/◌, ◌%◌, eqb, get_or}
-use Rattle.std.proofs.Math.Option.{Option, none, some}
+use Rattle.std.specs.Prelude.{Bool, List, [], map, ℕ, zero, suc, ◌+◌, ◌/◌, ◌%◌, eqb, get_or, Err, None, Ok, Option, Result, Some}
 use Rattle.rules.specs.Bytes.{pick, Name, name_at}
 use Rattle.rules.specs.Tables.{or_else}
 use Rattle.rules.specs.Types.{Typ, type_named, Env, with_name}
@@ -15,22 +14,13 @@ use Rattle.records.specs.Keys.{key_of}
 use Rattle.records.specs.Cells.{place_in, number_in}
 use Rattle.lookup.specs.declared.Ty.{Ty}
 use Rattle.lookup.specs.declared.Ty.TheVariants as ty
-use Rattle.lookup.specs.declared.Where.{Where}
-use Rattle.lookup.specs.declared.Where.TheVariants as place
-use Rattle.lookup.specs.declared.Got.{Got}
-use Rattle.lookup.specs.declared.Got.TheVariants as got
 use Rattle.lookup.specs.declared.Callee.{Callee}
 use Rattle.lookup.specs.declared.Callee.TheVariants as callee
 use Rattle.lookup.specs.declared.Due.{Due}
 use Rattle.lookup.specs.declared.Due.TheVariants as due
+use Rattle.lookup.specs.declared.Misfit as code
 use Rattle.lookup.specs.declared.Fault.{Fault}
 use Rattle.lookup.specs.declared.Fault.TheVariants as fault
-use Rattle.lookup.specs.declared.Typed.{Typed}
-use Rattle.lookup.specs.declared.Typed.TheVariants as typed
-use Rattle.lookup.specs.declared.Checked.{Checked}
-use Rattle.lookup.specs.declared.Checked.TheVariants as checked
-use Rattle.lookup.specs.declared.Misfit as code
-use Rattle.lookup.specs.declared.Misfit.TheVariants as mis
 
 unfoldable pub ty_of : List ℕ → Ty → Typ
 ty_of img ty.U64 = Typ.u64
@@ -40,18 +30,14 @@ ty_of img ty.Void = Typ.void
 ty_of img ty.Unknown = Typ.unknown
 ty_of img (ty.Struct p) = Typ.struct (name_at img p)
 
-unfoldable pub where_of : Where → Option ℕ
-where_of (place.At p) = some p
-where_of place.Nowhere = none
-
-unfoldable pub got_of : List ℕ → Got → Option Typ
-got_of img (got.Type t) = some (ty_of img t)
-got_of img got.Missing = none
+unfoldable pub got_of : List ℕ → Option Ty → Option Typ
+got_of img (Some t) = Some (ty_of img t)
+got_of img None = None
 
 unfoldable pub sig_at : List ℕ → Callee → Option Sig
-sig_at img (callee.Builtin k) = some (sig (repeated k) Typ.u64)
-sig_at img (callee.User p) = some (sig_of (function_at img p))
-sig_at img callee.Undefined = none
+sig_at img (callee.Builtin k) = Some (sig (repeated k) Typ.u64)
+sig_at img (callee.User p) = Some (sig_of (function_at img p))
+sig_at img callee.Undefined = None
 
 -- the type of the Field at p
 abbrev pub type_in : List ℕ → ℕ → Typ
@@ -82,8 +68,8 @@ env_of img env (suc (suc k)) =
     (env_of img env k)
 
 unfoldable pub ret_of : Option Sig → Typ
-ret_of (some s) = s.ret
-ret_of none = Typ.unknown
+ret_of (Some s) = s.ret
+ret_of None = Typ.unknown
 
 -- 01: the refusal, with its number and its place
 unfoldable pub fault_of : List ℕ → Fault → Refusal
@@ -101,18 +87,18 @@ fault_of img (fault.ArgType p i f) = Refusal.arg_type p i (name_at img f)
 fault_of img (fault.NoFunction p f) = Refusal.no_function p (name_at img f)
 fault_of img (fault.Operands p) = Refusal.operands p
 
-unfoldable pub typed_of : List ℕ → Typed → Res Typ
-typed_of img (typed.Is t) = ok (ty_of img t)
-typed_of img (typed.Refused f) = bad (fault_of img f)
+unfoldable pub typed_of : List ℕ → Result Ty Fault → Res Typ
+typed_of img (Ok t) = ok (ty_of img t)
+typed_of img (Err f) = bad (fault_of img f)
 
-unfoldable pub checked_of : List ℕ → Checked → Res (Unit {0})
-checked_of img checked.Fine = ok tt
-checked_of img (checked.Refused f) = bad (fault_of img f)
+unfoldable pub checked_of : List ℕ → Result (Unit {0}) Fault → Res (Unit {0})
+checked_of img (Ok tt) = ok tt
+checked_of img (Err f) = bad (fault_of img f)
 
-unfoldable pub misfit_of : code.Misfit → Option Misfit
-misfit_of mis.Fits = none
-misfit_of (mis.At i p) = some (record { index = i; place = p })
+unfoldable pub misfit_of : Option code.Misfit → Option Misfit
+misfit_of None = None
+misfit_of (Some m) = Some (record { index = m.index; place = m.place })
 
 -- the misfit found before, else the argument of index i at p if it clashes
 unfoldable pub noted : Bool → (i p : ℕ) → Option Misfit → Option Misfit
-noted b i p m = or_else m (pick b (some (record { index = i; place = p })) none)
+noted b i p m = or_else m (pick b (Some (record { index = i; place = p })) None)

@@ -1,7 +1,7 @@
 -- How answers that may be refused are put together.
 -- Assumes nothing.
-use Rattle.std.specs.Prelude.{Bool, true, false, ◌≡◌}
-use Rattle.std.proofs.Math.Option.{Option, none, some}
+use Rattle.std.specs.Prelude.{Bool, true, false, ◌≡◌, refl, ℕ, None, Option, Some, Result, Ok, Err, IsErrAnd, ok_or}
+use Rattle.std.proofs.Common.{arith, ap}
 use Rattle.rules.specs.Refusal.{Refusal, Res, ok, bad, ◌>>=◌, known, unless}
 
 -- a step that is refused, and one that is not
@@ -13,11 +13,11 @@ pub then_ok : {A B : Type 0} {m : Res A} {a : A} {o : Res B} (k : A → Res B) �
 unfolding ◌>>=◌
 then_ok k h e = rw (← h) e
 
-pub known_some : {A : Type 0} {o : Option A} {a : A} (r : Refusal) → some a ≡ o → ok a ≡ known r o
+pub known_some : {A : Type 0} {o : Option A} {a : A} (r : Refusal) → Some a ≡ o → ok a ≡ known r o
 unfolding known
 known_some r h = rw (← h)
 
-pub known_none : {A : Type 0} {o : Option A} (r : Refusal) → none ≡ o → bad r ≡ known r o
+pub known_none : {A : Type 0} {o : Option A} (r : Refusal) → None ≡ o → bad r ≡ known r o
 unfolding known
 known_none r h = rw (← h)
 
@@ -28,3 +28,17 @@ unless_bad r a h e = rw (← h, e)
 pub unless_ok : {A : Type 0} {b t : Bool} (r : Refusal) (a : A) → b ≡ t → b ≡ false → ok a ≡ unless t r a
 unfolding unless
 unless_ok r a h e = rw (← h, e)
+
+-- what is found, or else a refusal
+pub ok_or_some : {T E : Type 0} (o : Option T) (e : E) {x : T} → Ok x ≡ ok_or o e → Some x ≡ o
+ok_or_some None e h = absurd (let z : ◌≡◌ {A = ℕ} 0 1 = cc in omega arith)
+ok_or_some (Some y) e h = cc
+
+pub ok_or_none : {T E : Type 0} (o : Option T) (e : E) {f : E} → Err f ≡ ok_or o e → (None ≡ o) × (f ≡ e)
+ok_or_none None e h = (refl, cc)
+ok_or_none (Some y) e h = absurd (let z : ◌≡◌ {A = ℕ} 0 1 = cc in omega arith)
+
+-- what `?` hands on
+pub handed_on : {T E : Type 0} (r : Result T E) (e : E) → IsErrAnd r (λ y. y ≡ e) → r ≡ Err e
+handed_on (Ok x) e h = absurd h
+handed_on (Err y) e h = ap Err h

@@ -1,9 +1,9 @@
 // What the analysis (001: sema.rs) looks up: types, names in scope, structs, fields and functions. A name is the place of its record.
 #![tactic(auto)]
 
-ghost use Rattle.std.specs.Prelude.{◌≡◌, List, ℕ, ◌≤◌, ◌+◌, eqb, length, get_or, drop};
+ghost use Rattle.std.specs.Prelude.{◌≡◌, List, ℕ, ◌≤◌, ◌+◌, Some, None, length, get_or, drop};
 ghost use Rattle.rules.specs.Bytes.{pick, name_at, inside, after};
-ghost use Rattle.rules.specs.Tables.{last, nth, mapped};
+ghost use Rattle.rules.specs.Tables.{last, nth, mapped, or_else};
 ghost use Rattle.rules.specs.Tree.{Expr};
 ghost use Rattle.rules.specs.Read.{name_in, struct_at, contract_at, function_at};
 ghost use Rattle.rules.specs.Types.{Typ, type_named, tag_of, name_of, eq_typ, clash, init_clash, find};
@@ -11,11 +11,9 @@ ghost use Rattle.rules.specs.Refusal.{Refusal, unless};
 ghost use Rattle.rules.specs.Builtins.{builtin, arity};
 ghost use Rattle.rules.specs.Analyse.{ret_type, params_of, field_type_lem, init_fits_lem, fitted, applied, signature, expr, clashes};
 ghost use Rattle.tables.specs.Listed.{Tabled};
-ghost use Rattle.lookup.specs.Answers.{ty_of, where_of, got_of, sig_at, typ_of, env_of, ret_of, due_of, typed_of, checked_of, misfit_of, noted};
+ghost use Rattle.lookup.specs.Answers.{ty_of, got_of, sig_at, typ_of, env_of, ret_of, due_of, typed_of, checked_of, misfit_of, noted};
 ghost use Rattle.lookup.specs.Scope.{Pushed};
-ghost use Rattle.lookup.specs.Fields.{Spotted, Accessed};
-
-use tables::Found;
+ghost use Rattle.lookup.specs.Fields.{first_of, last_of, Spotted, Accessed};
 
 // 001: Type. A struct's type has the place of its name.
 #[derive(Clone, Copy)]
@@ -28,23 +26,11 @@ pub enum Ty {
     Struct(usize),
 }
 
-#[derive(Clone, Copy)]
-pub enum Where {
-    At(usize),
-    Nowhere,
-}
-
 // A field of a struct: its first position, and the place of its last Field.
 #[derive(Clone, Copy)]
-enum Spot {
-    At(usize, usize),
-    Nowhere,
-}
-
-#[derive(Clone, Copy)]
-pub enum Got {
-    Type(Ty),
-    Missing,
+struct Spot {
+    position: usize,
+    place: usize,
 }
 
 // A builtin with the number of its parameters; a function of the image with its place.
@@ -80,23 +66,11 @@ pub enum Fault {
     Operands(usize),
 }
 
-#[derive(Clone, Copy)]
-pub enum Typed {
-    Is(Ty),
-    Refused(Fault),
-}
-
-#[derive(Clone, Copy)]
-pub enum Checked {
-    Fine,
-    Refused(Fault),
-}
-
 // The first argument that does not fit its parameter: its index and its place.
 #[derive(Clone, Copy)]
-pub enum Misfit {
-    Fits,
-    At(usize, usize),
+pub struct Misfit {
+    pub index: usize,
+    pub place: usize,
 }
 
 // 001: Type::from_str, of the name at p.
@@ -134,11 +108,7 @@ fn name_place(img: &[u8], t: Ty) -> usize
 {
     match t {
         Ty::Struct(p) => p,
-        Ty::U64 => img.len(),
-        Ty::Bool => img.len(),
-        Ty::Field => img.len(),
-        Ty::Void => img.len(),
-        Ty::Unknown => img.len(),
+        Ty::U64 | Ty::Bool | Ty::Field | Ty::Void | Ty::Unknown => img.len(),
     }
 }
 
@@ -205,7 +175,7 @@ fn cell(a: &[usize], i: usize) -> usize
 }
 
 // 001: env.get. The type of the newest local with the name at x; names are compared only where their keys are equal.
-pub fn find_local(img: &[u8], env: &[usize], top: usize, x: usize) -> Got
+pub fn find_local(img: &[u8], env: &[usize], top: usize, x: usize) -> Option<Ty>
     ensures { got_of img.now result ≡ find (name_at img.now x) (env_of img.now env.now top) }
 {
     let key = records::name_key(img, x);
@@ -216,11 +186,11 @@ pub fn find_local(img: &[u8], env: &[usize], top: usize, x: usize) -> Got
             let c = cell(env, k + 1);
             if records::same_name(img, records::place_in(c), x) {
                 let n = records::number_in(c);
-                return Got::Type(type_of(n % 8, n / 8));
+                return Some(type_of(n % 8, n / 8));
             }
         }
     }
-    Got::Missing
+    None
 }
 
 // 001: env.insert. One name more, with the name at x, of type t.
@@ -245,38 +215,35 @@ pub fn declared(img: &[u8], f: usize) -> Ty
 }
 
 // The type of the field with the name at x of the struct at s.
-fn field_type(img: &[u8], s: usize, x: usize) -> Got
+fn field_type(img: &[u8], s: usize, x: usize) -> Option<Ty>
     ensures { got_of img.now result ≡ field_type_lem (name_at img.now x) (struct_at img.now s) }
 {
     let list = records::past(img, records::body(img, s));
-    let f = field_spot(img, list, records::name(img, x));
-    match f {
-        Spot::At(_, p) => Got::Type(declared(img, p)),
-        Spot::Nowhere => Got::Missing,
-    }
+    let spot = field_spot(img, list, records::name(img, x))?;
+    Some(declared(img, spot.place))
 }
 
 // 001: Builtins. How many arguments the one with the name at x takes.
-fn builtin_arity(img: &[u8], x: usize) -> Where
-    ensures { where_of result ≡ mapped arity (builtin (name_at img.now x)) }
+fn builtin_arity(img: &[u8], x: usize) -> Option<usize>
+    ensures { result ≡ mapped arity (builtin (name_at img.now x)) }
 {
     let name = records::name(img, x);
     if records::same(name, b"poseidon") {
-        return Where::At(2);
+        return Some(2);
     }
     if records::same(name, b"msg::sender") {
-        return Where::At(0);
+        return Some(0);
     }
     if records::same(name, b"msg::nonce") {
-        return Where::At(0);
+        return Some(0);
     }
     if records::same(name, b"block::number") {
-        return Where::At(0);
+        return Some(0);
     }
     if records::same(name, b"verify_merkle_proof") {
-        return Where::At(3);
+        return Some(3);
     }
-    Where::Nowhere
+    None
 }
 
 // 001: functions.get: the builtins were put in last.
@@ -284,16 +251,12 @@ pub fn callee_named(img: &[u8], tables: &[usize], x: usize) -> Callee
     requires { Tabled img.now tables.now }
     ensures { sig_at img.now result ≡ signature (contract_at img.now) (name_at img.now x) }
 {
-    let b = builtin_arity(img, x);
-    match b {
-        Where::At(k) => Callee::Builtin(k),
-        Where::Nowhere => {
-            let f = tables::function_named(img, tables, x);
-            match f {
-                Found::At(_, p) => Callee::User(p),
-                Found::Nothing => Callee::Undefined,
-            }
-        }
+    if let Some(k) = builtin_arity(img, x) {
+        return Callee::Builtin(k);
+    }
+    match tables::function_named(img, tables, x) {
+        Some(found) => Callee::User(found.place),
+        None => Callee::Undefined,
     }
 }
 
@@ -312,24 +275,24 @@ pub fn dues(img: &[u8], c: Callee) -> Due
 }
 
 // The type of the next parameter.
-fn first_due(img: &[u8], due: Due) -> Got
+fn first_due(img: &[u8], due: Due) -> Option<Ty>
     ensures { got_of img.now result ≡ nth 0 (due_of img.now due) }
 {
     match due {
         Due::Words(k) => {
             if k == 0 {
-                return Got::Missing;
+                return None;
             }
-            Got::Type(Ty::U64)
+            Some(Ty::U64)
         }
         Due::Fields(at, end, left) => {
             if left == 0 {
-                return Got::Missing;
+                return None;
             }
             if end <= at {
-                return Got::Missing;
+                return None;
             }
-            Got::Type(declared(img, at))
+            Some(declared(img, at))
         }
     }
 }
@@ -395,80 +358,68 @@ fn ret(img: &[u8], c: Callee) -> Ty
 fn misfits(img: &[u8], due: Due, t: Ty) -> bool
     ensures { result ≡ clashes (nth 0 (due_of img.now due)) (ty_of img.now t) }
 {
-    let g = first_due(img, due);
-    match g {
-        Got::Type(e) => clashing(img, e, t),
-        Got::Missing => false,
+    match first_due(img, due) {
+        Some(e) => clashing(img, e, t),
+        None => false,
     }
 }
 
 // 001: Arg {} type mismatch. The misfit found before, else the argument at `at`, of index i and type t, if it does not fit.
-pub fn note(img: &[u8], due: Due, i: usize, at: usize, t: Ty, m: Misfit) -> Misfit
+pub fn note(img: &[u8], due: Due, i: usize, at: usize, t: Ty, m: Option<Misfit>) -> Option<Misfit>
     ensures { misfit_of result ≡ noted (clashes (nth 0 (due_of img.now due)) (ty_of img.now t)) i at (misfit_of m) }
 {
-    match m {
-        Misfit::Fits => {
-            if misfits(img, due, t) {
-                return Misfit::At(i, at);
-            }
-            m
-        }
-        Misfit::At(_, _) => m,
+    if m.is_none() && misfits(img, due, t) {
+        return Some(Misfit {
+            index: i,
+            place: at,
+        });
     }
+    m
 }
 
 // 001: analyze_expr, Ident.
-pub fn analyze_ident(img: &[u8], at: usize, env: &[usize], top: usize) -> Typed
+pub fn analyze_ident(img: &[u8], at: usize, env: &[usize], top: usize) -> Result<Ty, Fault>
     ensures { typed_of img.now result ≡ expr (contract_at img.now) (Expr.ident at (name_in img.now at)) (env_of img.now env.now top) }
 {
     let x = records::body(img, at);
-    let g = find_local(img, env, top, x);
-    match g {
-        Got::Type(t) => Typed::Is(t),
-        Got::Missing => Typed::Refused(Fault::Ident(at, x)),
-    }
+    find_local(img, env, top, x).ok_or(Fault::Ident(at, x))
 }
 
-// The first position where a field is found, 64 if nowhere yet: it is sought at n, or was found before.
-fn first_of(first: usize, is: bool, n: usize) -> usize
-    ensures { result ≡ pick is (pick (eqb first 64) n first) first }
+// What is found of a field behind one more Field, at position n and place p, where that is the field: its first position counts, and its last place.
+fn behind(spot: Option<Spot>, is: bool, n: usize, p: usize) -> Option<Spot>
+    ensures first { first_of result ≡ or_else (first_of spot) (pick is (Some n) None) }
+    ensures last { last_of result ≡ or_else (pick is (Some p) None) (last_of spot) }
 {
-    if is {
-        if first == 64 {
-            return n;
-        }
+    if !is {
+        return spot;
     }
-    first
-}
-
-// The last place.
-fn last_of(last: usize, is: bool, p: usize) -> usize
-    ensures { result ≡ pick is p last }
-{
-    if is { p } else { last }
+    match spot {
+        Some(before) => Some(Spot {
+            position: before.position,
+            place: p,
+        }),
+        None => Some(Spot {
+            position: n,
+            place: p,
+        }),
+    }
 }
 
 // The field x in the List of Fields at l: its type is the last one's (001), its position the first one's (000).
-fn field_spot(img: &[u8], l: usize, x: &[u8]) -> Spot
+fn field_spot(img: &[u8], l: usize, x: &[u8]) -> Option<Spot>
     ensures { Spotted img.now l x.now result }
 {
     let end = records::past(img, l);
     let mut p = records::body(img, l);
     let mut n = 0;
-    let mut first: usize = 64;
-    let mut last: usize = 0;
+    let mut spot = None;
     while n < 64 && p < end {
         let is = records::is_name(img, records::body(img, p), x);
-        first = first_of(first, is, n);
-        last = last_of(last, is, p);
+        spot = behind(spot, is, n, p);
         p = records::past(img, p);
         n += 1;
     }
-    if first == 64 {
-        Spot::Nowhere
-    } else {
-        Spot::At(first, last)
-    }
+    spot
 }
 
 // A field, with the name at x, of the struct with the name at s.
@@ -479,28 +430,18 @@ fn struct_field(
     at: usize,
     s: usize,
     x: usize,
-) -> Typed
+) -> Result<Ty, Fault>
     requires { Tabled img.now tables.now }
     ensures { Accessed img.now notes.old notes.new at (Typ.struct (name_at img.now s)) x result }
 {
-    let d = tables::struct_named(img, tables, s);
-    match d {
-        Found::At(_, p) => {
-            let list = records::past(img, records::body(img, p));
-            let f = field_spot(img, list, records::name(img, x));
-            match f {
-                Spot::At(n, q) => {
-                    notes::set(notes, at, n);
-                    Typed::Is(declared(img, q))
-                }
-                Spot::Nowhere => Typed::Refused(Fault::NoField(at, s, x)),
-            }
-        }
-        Found::Nothing => {
-            notes::leave(notes);
-            Typed::Is(Ty::Unknown)
-        }
-    }
+    let Some(found) = tables::struct_named(img, tables, s) else {
+        notes::leave(notes);
+        return Ok(Ty::Unknown);
+    };
+    let list = records::past(img, records::body(img, found.place));
+    let spot = field_spot(img, list, records::name(img, x)).ok_or(Fault::NoField(at, s, x))?;
+    notes::set(notes, at, spot.position);
+    Ok(declared(img, spot.place))
 }
 
 // 001: analyze_expr, FieldAccess: a field, with the name at x, of a value of type t. What is found is noted (02: P2).
@@ -511,7 +452,7 @@ pub fn field_of(
     at: usize,
     t: Ty,
     x: usize,
-) -> Typed
+) -> Result<Ty, Fault>
     requires { Tabled img.now tables.now }
     ensures { Accessed img.now notes.old notes.new at (ty_of img.now t) x result }
 {
@@ -519,66 +460,69 @@ pub fn field_of(
         Ty::Struct(s) => struct_field(notes, img, tables, at, s, x),
         Ty::Unknown => {
             notes::leave(notes);
-            Typed::Is(Ty::Unknown)
+            Ok(Ty::Unknown)
         }
-        Ty::U64 => Typed::Refused(Fault::NotStruct(at)),
-        Ty::Bool => Typed::Refused(Fault::NotStruct(at)),
-        Ty::Field => Typed::Refused(Fault::NotStruct(at)),
-        Ty::Void => Typed::Refused(Fault::NotStruct(at)),
+        Ty::U64 | Ty::Bool | Ty::Field | Ty::Void => Err(Fault::NotStruct(at)),
     }
 }
 
 // 001: analyze_expr, Binary: the operands' types. A comparison too has the left one.
-pub fn both(img: &[u8], at: usize, a: Ty, b: Ty) -> Typed
+pub fn both(img: &[u8], at: usize, a: Ty, b: Ty) -> Result<Ty, Fault>
     ensures { typed_of img.now result ≡ unless (clash (ty_of img.now a) (ty_of img.now b)) (Refusal.operands at) (ty_of img.now a) }
 {
     if clashing(img, a, b) {
-        Typed::Refused(Fault::Operands(at))
+        Err(Fault::Operands(at))
     } else {
-        Typed::Is(a)
+        Ok(a)
     }
 }
 
 // 001: analyze_expr, StructLiteral: the Init at `at`, of the struct at s, with a value of type t.
-pub fn init_fits(img: &[u8], at: usize, s: usize, t: Ty) -> Checked
+pub fn init_fits(img: &[u8], at: usize, s: usize, t: Ty) -> Result<(), Fault>
     ensures { checked_of img.now result ≡ init_fits_lem at (name_in img.now at) (field_type_lem (name_in img.now at) (struct_at img.now s)) (ty_of img.now t) }
 {
     let x = records::body(img, at);
-    let g = field_type(img, s, x);
-    match g {
-        Got::Type(e) => {
-            if init_clashing(img, e, t) {
-                Checked::Refused(Fault::InitType(at, x))
-            } else {
-                Checked::Fine
-            }
-        }
-        Got::Missing => Checked::Refused(Fault::InitField(at, x)),
+    let due = field_type(img, s, x).ok_or(Fault::InitField(at, x))?;
+    if init_clashing(img, due, t) {
+        return Err(Fault::InitType(at, x));
     }
+    Ok(())
 }
 
 // A call of a function that there is, with the name at x, with n arguments.
-fn fit_call(img: &[u8], at: usize, x: usize, c: Callee, n: usize, m: Misfit) -> Typed
+fn fit_call(
+    img: &[u8],
+    at: usize,
+    x: usize,
+    c: Callee,
+    n: usize,
+    m: Option<Misfit>,
+) -> Result<Ty, Fault>
     ensures { typed_of img.now result ≡ fitted at (name_at img.now x) n (misfit_of m) (params_of (sig_at img.now c)) (ret_of (sig_at img.now c)) }
 {
     let k = due_count(img, dues(img, c));
-    if k == n {
-        match m {
-            Misfit::Fits => Typed::Is(ret(img, c)),
-            Misfit::At(i, p) => Typed::Refused(Fault::ArgType(p, i, x)),
-        }
-    } else {
-        Typed::Refused(Fault::ArgCount(at, x, k, n))
+    if k != n {
+        return Err(Fault::ArgCount(at, x, k, n));
+    }
+    match m {
+        Some(misfit) => Err(Fault::ArgType(misfit.place, misfit.index, x)),
+        None => Ok(ret(img, c)),
     }
 }
 
 // 001: analyze_expr, Call: of the function with the name at x, with n arguments.
-pub fn apply_to(img: &[u8], at: usize, x: usize, c: Callee, n: usize, m: Misfit) -> Typed
+pub fn apply_to(
+    img: &[u8],
+    at: usize,
+    x: usize,
+    c: Callee,
+    n: usize,
+    m: Option<Misfit>,
+) -> Result<Ty, Fault>
     ensures { typed_of img.now result ≡ applied at (name_at img.now x) n (misfit_of m) (sig_at img.now c) }
 {
     match c {
-        Callee::Undefined => Typed::Refused(Fault::NoFunction(at, x)),
-        Callee::Builtin(_) => fit_call(img, at, x, c, n, m),
-        Callee::User(_) => fit_call(img, at, x, c, n, m),
+        Callee::Undefined => Err(Fault::NoFunction(at, x)),
+        Callee::Builtin(_) | Callee::User(_) => fit_call(img, at, x, c, n, m),
     }
 }

@@ -1,10 +1,9 @@
 -- Where each access that analysis found has its base's declared struct, there is no 30 (02: P2): each that 30 looks at is among them.
 -- Assumes nothing.
-use Rattle.std.specs.Prelude.{◌≡◌, Bool, ℕ, eqb}
+use Rattle.std.specs.Prelude.{◌≡◌, Bool, ℕ, eqb, None, Option, Some}
 use Rattle.std.proofs.Math.Path.{refl, subst}
 use Rattle.std.proofs.Common.{sym, eq-eqb}
 use Rattle.std.proofs.Math.Bool.{true, false}
-use Rattle.std.proofs.Math.Option.{Option, none, some}
 use mathlib.Core.List.{List, [], ◌∷◌, ◌++◌}
 use Rattle.rules.specs.Bytes.{pick, Name, eq_name, ◌and◌, ◌or◌}
 use Rattle.rules.specs.Tree.{Expr, Exprs, Inits, Stmt, Stmts, Struct, Function, Contract}
@@ -23,13 +22,13 @@ use Rattle.notes.specs.Notes.{spot_in_lem, spot_of}
 
 -- Its base is of a declared struct, where its field stands at some position.
 abbrev pub Sure : Contract → Access → Type 0
-Sure C a = (k : ℕ) × (spot_of C a ≡ some k)
+Sure C a = (k : ℕ) × (spot_of C a ≡ Some k)
 
 -- Then that is the one position.
-pub one_choice : (x : Name) (k : ℕ) (o : Option Struct) → spot_in_lem o x ≡ some k → (l : List Struct) → positions x (among o l) ≡ (k ∷ [])
+pub one_choice : (x : Name) (k : ℕ) (o : Option Struct) → spot_in_lem o x ≡ Some k → (l : List Struct) → positions x (among o l) ≡ (k ∷ [])
 unfolding spot_in_lem among positions with_position
-one_choice x k (some d) e l = rw e
-one_choice x k none e l = some_none k (sym e)
+one_choice x k (Some d) e l = rw e
+one_choice x k None e l = some_none k (sym e)
 
 -- An access to x at p is in the list.
 has : (p : ℕ) (x : Name) → List Access → Bool
@@ -52,14 +51,14 @@ each_has (a ∷ l) k f = (f a.place a.field (itself a l), each_has l k (λ p x h
 
 module _ (C : Contract) where
   -- What is found by its place and field has its position.
-  found_sure : (p : ℕ) (x : Name) (l : List Access) → Each (Sure C) l → has p x l ≡ true → (k : ℕ) × (spot_in_lem (declared C (base_at p x l)) x ≡ some k)
+  found_sure : (p : ℕ) (x : Name) (l : List Access) → Each (Sure C) l → has p x l ≡ true → (k : ℕ) × (spot_in_lem (declared C (base_at p x l)) x ≡ Some k)
   unfolding base_at pick spot_of has
   found_sure p x [] h e = never e
   found_sure p x (a ∷ l) h e = by (eqb a.place p) (eq_name a.field x) refl e (found_sure p x l h.1)
     where
-      by : (b c : Bool) → eq_name a.field x ≡ c → ((b and c) or has p x l) ≡ true → (has p x l ≡ true → (k : ℕ) × (spot_in_lem (declared C (base_at p x l)) x ≡ some k))
-          → (k : ℕ) × (spot_in_lem (declared C (pick (b and c) a.base (base_at p x l))) x ≡ some k)
-      by true true q g r = (h.0.0, subst (λ (y : Name). spot_in_lem (declared C a.base) y ≡ some h.0.0) (name_eq a.field x q) h.0.1)
+      by : (b c : Bool) → eq_name a.field x ≡ c → ((b and c) or has p x l) ≡ true → (has p x l ≡ true → (k : ℕ) × (spot_in_lem (declared C (base_at p x l)) x ≡ Some k))
+          → (k : ℕ) × (spot_in_lem (declared C (pick (b and c) a.base (base_at p x l))) x ≡ Some k)
+      by true true q g r = (h.0.0, subst (λ (y : Name). spot_in_lem (declared C a.base) y ≡ Some h.0.0) (name_eq a.field x q) h.0.1)
       by true false q g r = r g
       by false c q g r = r g
 
@@ -67,7 +66,7 @@ module _ (C : Contract) where
   abbrev Clear : Access → Type 0
   Clear a = is_ambiguous_lem C a.place a.field ≡ false
 
-  clear_one : (p : ℕ) (x : Name) (k : ℕ) → spot_in_lem (declared C (base_at p x (accesses C))) x ≡ some k → is_ambiguous_lem C p x ≡ false
+  clear_one : (p : ℕ) (x : Name) (k : ℕ) → spot_in_lem (declared C (base_at p x (accesses C))) x ≡ Some k → is_ambiguous_lem C p x ≡ false
   unfolding is_ambiguous_lem choices apart differs
   clear_one p x k e = rw (one_choice x k (declared C (base_at p x (accesses C))) e (layouts C.structs))
 
@@ -93,14 +92,14 @@ unfolding behind
 each_behind P f e h = rw e at h
 
 module _ (C : Contract) where
-  here_not : (p : ℕ) (b : Bool) (o : Option ℕ) → b ≡ false → o ≡ none → pick b (some p) o ≡ none
+  here_not : (p : ℕ) (b : Bool) (o : Option ℕ) → b ≡ false → o ≡ None → pick b (Some p) o ≡ None
   unfolding pick
   here_not p b o e h = rw (e, h)
 
   mutual
     unfolding analysis.expr analysis.exprs analysis.inits of_expr of_exprs of_inits in_expr_lem in_exprs in_inits_lem
 
-    expr_none : (e : Expr) (Γ : Env) (t : Typ) → analysis.expr C e Γ ≡ ok t → Each (Clear C) (of_expr C e Γ) → in_expr_lem C e ≡ none
+    expr_none : (e : Expr) (Γ : Env) (t : Typ) → analysis.expr C e Γ ≡ ok t → Each (Clear C) (of_expr C e Γ) → in_expr_lem C e ≡ None
     expr_none (Expr.no-expr p) Γ t h c = refl
     expr_none (Expr.int p v) Γ t h c = refl
     expr_none (Expr.ident p x) Γ t h c = refl
@@ -121,7 +120,7 @@ module _ (C : Contract) where
         both_none (expr_none a Γ g.0 g.1.0 k.0) (expr_none b Γ f.0 f.1.0 k.1)
     expr_none (Expr.call p f es) Γ t h c = let g = then_ok (analysis.exprs C es Γ) _ t h in exprs_none es Γ g.0 g.1.0 c
 
-    exprs_none : (es : Exprs) (Γ : Env) (vs : List analysis.Arg) → analysis.exprs C es Γ ≡ ok vs → Each (Clear C) (of_exprs C es Γ) → in_exprs C es ≡ none
+    exprs_none : (es : Exprs) (Γ : Env) (vs : List analysis.Arg) → analysis.exprs C es Γ ≡ ok vs → Each (Clear C) (of_exprs C es Γ) → in_exprs C es ≡ None
     exprs_none Exprs.none Γ vs h c = refl
     exprs_none (Exprs.more e es) Γ vs h c =
         let g = then_ok (analysis.expr C e Γ) _ vs h in
@@ -129,7 +128,7 @@ module _ (C : Contract) where
         let k = each_parts (Clear C) (of_expr C e Γ) _ c in
         both_none (expr_none e Γ g.0 g.1.0 k.0) (exprs_none es Γ f.0 f.1.0 k.1)
 
-    inits_none : (s : Struct) (is : Inits) (Γ : Env) (u : Unit {0}) → analysis.inits C s is Γ ≡ ok u → Each (Clear C) (of_inits C is Γ) → in_inits_lem C is ≡ none
+    inits_none : (s : Struct) (is : Inits) (Γ : Env) (u : Unit {0}) → analysis.inits C s is Γ ≡ ok u → Each (Clear C) (of_inits C is Γ) → in_inits_lem C is ≡ None
     inits_none s Inits.no-init Γ u h c = refl
     inits_none s (Inits.init p x e is) Γ u h c =
         let g = then_ok (analysis.expr C e Γ) _ u h in
@@ -141,7 +140,7 @@ module _ (C : Contract) where
     mutual
       unfolding analysis.stmt analysis.stmts of_stmt of_stmts in_stmt_lem in_stmts
 
-      stmt_none : (s : Stmt) (Γ Δ : Env) → analysis.stmt C ret s Γ ≡ ok Δ → Each (Clear C) (of_stmt C ret s Γ) → in_stmt_lem C s ≡ none
+      stmt_none : (s : Stmt) (Γ Δ : Env) → analysis.stmt C ret s Γ ≡ ok Δ → Each (Clear C) (of_stmt C ret s Γ) → in_stmt_lem C s ≡ None
       stmt_none (Stmt.no-stmt p) Γ Δ h c = refl
       stmt_none (Stmt.let-in p x e) Γ Δ h c = let g = then_ok (analysis.expr C e Γ) _ Δ h in expr_none e Γ g.0 g.1.0 c
       stmt_none (Stmt.constrain p e) Γ Δ h c = let g = then_ok (analysis.expr C e Γ) _ Δ h in expr_none e Γ g.0 g.1.0 c
@@ -177,14 +176,14 @@ module _ (C : Contract) where
       stmt_none (Stmt.emits p x es) Γ Δ h c = let g = then_ok (analysis.exprs C es Γ) _ Δ h in exprs_none es Γ g.0 g.1.0 c
       stmt_none (Stmt.just p e) Γ Δ h c = let g = then_ok (analysis.expr C e Γ) _ Δ h in expr_none e Γ g.0 g.1.0 c
 
-      stmts_none : (ss : Stmts) (Γ Δ : Env) → analysis.stmts C ret ss Γ ≡ ok Δ → Each (Clear C) (of_stmts C ret ss Γ) → in_stmts C ss ≡ none
+      stmts_none : (ss : Stmts) (Γ Δ : Env) → analysis.stmts C ret ss Γ ≡ ok Δ → Each (Clear C) (of_stmts C ret ss Γ) → in_stmts C ss ≡ None
       stmts_none Stmts.none Γ Δ h c = refl
       stmts_none (Stmts.more s ss) Γ Δ h c =
           let g = then_ok (analysis.stmt C ret s Γ) _ Δ h in
           let k = each_parts (Clear C) (of_stmt C ret s Γ) _ c in
           both_none (stmt_none s Γ g.0 g.1.0 k.0) (stmts_none ss g.0 Δ g.1.1 (each_behind (Clear C) _ g.1.0 k.1))
 
-  functions_none : (fs : List Function) → analysis.functions C fs ≡ ok tt → Each (Clear C) (of_functions C fs) → in_functions C fs ≡ none
+  functions_none : (fs : List Function) → analysis.functions C fs ≡ ok tt → Each (Clear C) (of_functions C fs) → in_functions C fs ≡ None
   unfolding analysis.functions analysis.function of_functions of_function in_functions
   functions_none [] h c = refl
   functions_none (f ∷ fs) h c =
@@ -194,6 +193,6 @@ module _ (C : Contract) where
       both_none (stmts_none _ f.body _ j.0 j.1.0 k.0) (functions_none fs g.1.1 k.1)
 
   -- 02: P2: no 30 where every access has its struct.
-  pub sure_clear : analysis.analyse C ≡ ok tt → Each (Sure C) (accesses C) → first_ambiguous_lem C ≡ none
+  pub sure_clear : analysis.analyse C ≡ ok tt → Each (Sure C) (accesses C) → first_ambiguous_lem C ≡ None
   unfolding analysis.analyse accesses first_ambiguous_lem
   sure_clear h s = functions_none C.functions h (clear_each C s (accesses C) (each_has (accesses C) (accesses C) (λ p x e. e)))

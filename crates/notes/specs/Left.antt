@@ -1,8 +1,7 @@
 -- What analysis of a checked image has written is what the notes are to say; and what they say of offsets and of 30.
 -- Assumes nothing.
 use mathlib.Core.List.{List, [], ◌∷◌, ◌++◌}
-use Rattle.std.proofs.Math.Option.{Option, none, some}
-use Rattle.std.specs.Prelude.{Bool, eqb, length, get_or}
+use Rattle.std.specs.Prelude.{Bool, eqb, length, get_or, None, Option, Some}
 use Rattle.std.proofs.Math.Bool.{true, false}
 use Rattle.std.proofs.Math.Path.{◌≡◌, refl, ap}
 use Rattle.std.proofs.Common.{sym, ◌∙◌, arith, eq-eqb, eqb-true, ne_eqb, length-set}
@@ -17,7 +16,7 @@ use Rattle.rules.specs.Analyse.{field_name, analyse}
 use Rattle.rules.specs.Refusal.{ok}
 use Rattle.rules.specs.Read.{contract_at}
 use Rattle.rules.specs.Meant.{Access, accesses, base_at}
-use Rattle.rules.specs.declared.Seen.TheVariants.{Sound}
+use Rattle.rules.specs.Seen.{Sound}
 use Rattle.rules.specs.Check.{check_of}
 use Rattle.rules.specs.Layout.{layouts, positions, first_of, declared, among, choices, offset}
 use Rattle.rules.specs.Ambiguous.{differs, apart, is_ambiguous_lem}
@@ -42,33 +41,33 @@ parts_of : (r k : ℕ) → k < 64 → ((r * 64 + k + 1 - 1) / 64 ≡ r) × ((r *
 parts_of r k h = (omega arith, omega arith)
 
 -- A byte that was noted for q, read at a place of the same three.
-read_noted : (p q k : ℕ) → k < 64 → p / 3 ≡ q / 3 → read_as_lem p (q % 3 * 64 + k + 1) ≡ pick (eqb q p) (some k) none
+read_noted : (p q k : ℕ) → k < 64 → p / 3 ≡ q / 3 → read_as_lem p (q % 3 * 64 + k + 1) ≡ pick (eqb q p) (Some k) None
 unfolding read_as_lem pick
 read_noted p q k h e = let g = parts_of (q % 3) k h in rw (ne_eqb (q % 3 * 64 + k + 1) 0 (λ z. omega (arith, z)), g.0, g.1) (by (eqb q p) refl)
   where
-    by : (b : Bool) → eqb q p ≡ b → pick (eqb (q % 3) (p % 3)) (some k) none ≡ pick b (some k) none
+    by : (b : Bool) → eqb q p ≡ b → pick (eqb (q % 3) (p % 3)) (Some k) None ≡ pick b (Some k) None
     by true z = rw (eq-eqb (q % 3) (p % 3) (ap (λ n. n % 3) (eqb-true q p z)))
     by false z = rw (ne_eqb (q % 3) (p % 3) (λ y. eqb-false q p z (omega (arith, e, y))))
 
 -- A position that is noted is below 64.
-read_few : (p v k : ℕ) → read_as_lem p v ≡ some k → k < 64
+read_few : (p v k : ℕ) → read_as_lem p v ≡ Some k → k < 64
 unfolding read_as_lem pick
 read_few p v k e = by (eqb v 0) (eqb ((v - 1) / 64) (p % 3)) e
   where
-    by : (b c : Bool) → pick b none (pick c (some ((v - 1) % 64)) none) ≡ some k → k < 64
+    by : (b c : Bool) → pick b None (pick c (Some ((v - 1) % 64)) None) ≡ Some k → k < 64
     by true c h = some_none k (sym h)
     by false true h = let z = some_same ((v - 1) % 64) k h in omega (arith, z)
     by false false h = some_none k (sym h)
 
-pub note_few : (N : List ℕ) (p k : ℕ) → note_at N p ≡ some k → k < 64
+pub note_few : (N : List ℕ) (p k : ℕ) → note_at N p ≡ Some k → k < 64
 unfolding note_at
 note_few N p k e = read_few p (get_or N (p / 3) 0) k e
 
 -- A byte where none of them is noted stays, but for the last.
 marked_else : (N : List ℕ) (p i : ℕ) (o : Option ℕ) → (p / 3 ≡ i → ⊥) → (i ≡ 21845 → ⊥) → get_or (marked N p o) i 0 ≡ get_or N i 0
 unfolding marked noted left
-marked_else N p i (some k) h g = get_or-set_other N (p / 3) i _ 0 (λ z. h (sym z))
-marked_else N p i none h g = get_or-set_other N 21845 i _ 0 (λ z. g z)
+marked_else N p i (Some k) h g = get_or-set_other N (p / 3) i _ 0 (λ z. h (sym z))
+marked_else N p i None h g = get_or-set_other N 21845 i _ 0 (λ z. g z)
 
 written_else : (C : Contract) (N : List ℕ) (l : List Access) (i : ℕ) → Each (λ (a : Access). a.place / 3 ≡ i → ⊥) l → (i ≡ 21845 → ⊥) → get_or (written C N l) i 0 ≡ get_or N i 0
 unfolding written
@@ -77,8 +76,8 @@ written_else C N (a ∷ l) i h g = written_else C (marked N a.place (spot_of C a
 
 marked_long : (N : List ℕ) (p : ℕ) (o : Option ℕ) → length (marked N p o) ≡ length N
 unfolding marked noted left
-marked_long N p (some k) = length-set N (p / 3) _
-marked_long N p none = length-set N 21845 _
+marked_long N p (Some k) = length-set N (p / 3) _
+marked_long N p None = length-set N 21845 _
 
 -- No byte more or less.
 pub written_long : (C : Contract) (N : List ℕ) (l : List Access) → length (written C N l) ≡ length N
@@ -102,21 +101,21 @@ longer : (n m : ℕ) → n ≤ m → (l : List Access) → Each (λ (a : Access)
 longer n m e [] h = tt
 longer n m e (a ∷ l) h = (omega (arith, e, h.0), longer n m e l h.1)
 
-module _ (C : Contract) (F : ℕ → Name) (few : (a : Access) (k : ℕ) → spot_of C a ≡ some k → k < 64) where
+module _ (C : Contract) (F : ℕ → Name) (few : (a : Access) (k : ℕ) → spot_of C a ≡ Some k → k < 64) where
   -- One access, in notes that said nothing of its three places.
   here : (N : List ℕ) (a : Access) (p : ℕ) → p / 3 ≡ a.place / 3 → a.place / 3 < length N → (p / 3 ≡ 21845 → ⊥) → get_or N (p / 3) 0 ≡ 0 → (o : Option ℕ) → spot_of C a ≡ o
-      → read_as_lem p (get_or (marked N a.place o) (p / 3) 0) ≡ pick (eqb a.place p) o none
+      → read_as_lem p (get_or (marked N a.place o) (p / 3) 0) ≡ pick (eqb a.place p) o None
   unfolding marked noted left read_as_lem pick
-  here N a p e r u z (some k) s = rw (e, get_or-set_same N (a.place / 3) (a.place % 3 * 64 + k + 1) 0 r) (read_noted p a.place k (few a k s) e)
-  here N a p e r u z none s = rw (get_or-set_other N 21845 (p / 3) 255 0 (λ y. u y), z) (by (eqb a.place p))
+  here N a p e r u z (Some k) s = rw (e, get_or-set_same N (a.place / 3) (a.place % 3 * 64 + k + 1) 0 r) (read_noted p a.place k (few a k s) e)
+  here N a p e r u z None s = rw (get_or-set_other N 21845 (p / 3) 255 0 (λ y. u y), z) (by (eqb a.place p))
     where
-      by : (b : Bool) → ◌≡◌ {A = Option ℕ} none (pick b none none)
+      by : (b : Bool) → ◌≡◌ {A = Option ℕ} None (pick b None None)
       by true = refl
       by false = refl
 
   -- What is found there.
   there : (a : Access) (p : ℕ) → a.field ≡ F a.place → (b : Bool) → eqb a.place p ≡ b
-      → spot_in_lem (declared C (pick (b and eq_name a.field (F p)) a.base Typ.unknown)) (F p) ≡ pick b (spot_of C a) none
+      → spot_in_lem (declared C (pick (b and eq_name a.field (F p)) a.base Typ.unknown)) (F p) ≡ pick b (spot_of C a) None
   unfolding pick spot_in_lem declared spot_of
   there a p n true e = let q : a.field ≡ F p = n ∙ ap F (eqb-true a.place p e) in rw (← q, name_refl a.field)
   there a p n false e = refl
@@ -145,8 +144,8 @@ module _ (C : Contract) (F : ℕ → Name) (few : (a : Access) (k : ℕ) → spo
 module _ (C : Contract) where
   -- it is
   is_none : Option ℕ → Bool
-  is_none none = true
-  is_none (some k) = false
+  is_none None = true
+  is_none (Some k) = false
 
   searched : List Access → Bool
   searched [] = false
@@ -154,8 +153,8 @@ module _ (C : Contract) where
 
   marked_last : (N : List ℕ) (p : ℕ) (o : Option ℕ) → length N ≡ 21846 → p / 3 < 21845 → get_or (marked N p o) 21845 0 ≡ pick (is_none o) 255 (get_or N 21845 0)
   unfolding marked noted left pick is_none
-  marked_last N p none h g = get_or-set_same N 21845 255 0 (omega (arith, h))
-  marked_last N p (some k) h g = get_or-set_other N (p / 3) 21845 _ 0 (λ z. omega (arith, g, z))
+  marked_last N p None h g = get_or-set_same N 21845 255 0 (omega (arith, h))
+  marked_last N p (Some k) h g = get_or-set_other N (p / 3) 21845 _ 0 (λ z. omega (arith, g, z))
 
   either : (b c : Bool) (v : ℕ) → pick c 255 (pick b 255 v) ≡ pick (b or c) 255 v
   unfolding pick
@@ -179,11 +178,11 @@ module _ (C : Contract) where
   all_sure (a ∷ l) h = by (spot_of C a) refl h (all_sure l)
     where
       by : (o : Option ℕ) → spot_of C a ≡ o → (is_none o or searched l) ≡ false → (searched l ≡ false → Each (Sure C) l) → Sure C a × Each (Sure C) l
-      by none e g r = never (sym g)
-      by (some k) e g r = ((k, e), r g)
+      by None e g r = never (sym g)
+      by (Some k) e g r = ((k, e), r g)
 
 -- Whatever it says, it says nothing of a place.
-silent : (p : ℕ) (b : Bool) → read_as_lem p (pick b 255 0) ≡ none
+silent : (p : ℕ) (b : Bool) → read_as_lem p (pick b 255 0) ≡ None
 unfolding read_as_lem pick
 silent p true = rw (ne_eqb 3 (p % 3) (λ z. omega (arith, z)))
 silent p false = refl
@@ -194,13 +193,13 @@ quiet true h = absurd (omega (arith, h))
 quiet false h = refl
 
 -- A position is below 64.
-spot_few : (img : List ℕ) (a : Access) (k : ℕ) → spot_of (contract_at img) a ≡ some k → k < 64
+spot_few : (img : List ℕ) (a : Access) (k : ℕ) → spot_of (contract_at img) a ≡ Some k → k < 64
 unfolding spot_of spot_in_lem
 spot_few img a k e = by (declared (contract_at img) a.base) (declared_few (contract_at img) (cut img).fields a.base) e
   where
-    by : (o : Option Struct) → Opt (λ (s : Struct). length s.fields ≤ 64) o → spot_in_lem o a.field ≡ some k → k < 64
-    by (some d) f g = let b = opt_some (λ r. r < 0 + length d.fields) (first_index field_name 0 a.field d.fields) k (first_index_low field_name 0 a.field d.fields) g in omega (arith, b, f)
-    by none f g = some_none k (sym g)
+    by : (o : Option Struct) → Opt (λ (s : Struct). length s.fields ≤ 64) o → spot_in_lem o a.field ≡ Some k → k < 64
+    by (Some d) f g = let b = opt_some (λ r. r < 0 + length d.fields) (first_index field_name 0 a.field d.fields) k (first_index_low field_name 0 a.field d.fields) g in omega (arith, b, f)
+    by None f g = some_none k (sym g)
 
 -- Within an image of n bytes, within the notes, and not at their last byte.
 all_within : (n : ℕ) → n ≤ 65536 → (l : List Access) → Each (λ (a : Access). (0 ≤ a.place) × (a.place + 6 ≤ n)) l → Each (λ (a : Access). a.place / 3 < 21845) l
@@ -212,7 +211,7 @@ apart_from : (p : ℕ) → p / 3 ≡ 21845 → (l : List Access) → Each (λ (a
 apart_from p v [] w = tt
 apart_from p v (a ∷ l) w = (λ z. omega (arith, z, v, w.0), apart_from p v l w.1)
 
-none_there : (img N : List ℕ) (p : ℕ) → read_as_lem p (get_or N (p / 3) 0) ≡ none → base_at p (field_in img p) (accesses (contract_at img)) ≡ Typ.unknown
+none_there : (img N : List ℕ) (p : ℕ) → read_as_lem p (get_or N (p / 3) 0) ≡ None → base_at p (field_in img p) (accesses (contract_at img)) ≡ Typ.unknown
     → note_at N p ≡ spot_in_lem (declared (contract_at img) (base_at p (field_in img p) (accesses (contract_at img)))) (field_in img p)
 unfolding note_at spot_in_lem declared
 none_there img N p h e = rw e h
@@ -251,35 +250,35 @@ module _ (img N : List ℕ) (n : Noted img N) (p : ℕ) where
   meant = declared (contract_at img) (base_at p (field_in img p) (accesses (contract_at img)))
 
   -- Noted: that is the position, and it is the only one.
-  pub noted_one : (k : ℕ) → note_at N p ≡ some k → choices (contract_at img) p (field_in img p) ≡ (k ∷ [])
+  pub noted_one : (k : ℕ) → note_at N p ≡ Some k → choices (contract_at img) p (field_in img p) ≡ (k ∷ [])
   unfolding choices meant
   noted_one k e = one_choice (field_in img p) k meant (sym (n.is p) ∙ e) (layouts (contract_at img).structs)
 
-  sought : (o : Option Struct) → ((d : Struct) → o ≡ some d → first_index field_name 0 (field_in img p) d.fields ≡ none → ⊥) → spot_in_lem o (field_in img p) ≡ none → (l : List Struct)
+  sought : (o : Option Struct) → ((d : Struct) → o ≡ Some d → first_index field_name 0 (field_in img p) d.fields ≡ None → ⊥) → spot_in_lem o (field_in img p) ≡ None → (l : List Struct)
       → positions (field_in img p) (among o l) ≡ positions (field_in img p) l
   unfolding spot_in_lem among
-  sought (some d) h e l = absurd (h d refl e)
-  sought none h e l = refl
+  sought (Some d) h e l = absurd (h d refl e)
+  sought None h e l = refl
 
   -- Not noted: the old search.
-  pub noted_none : note_at N p ≡ none → choices (contract_at img) p (field_in img p) ≡ positions (field_in img p) (layouts (contract_at img).structs)
+  pub noted_none : note_at N p ≡ None → choices (contract_at img) p (field_in img p) ≡ positions (field_in img p) (layouts (contract_at img).structs)
   unfolding choices meant
   noted_none e = sought meant (λ d f. meant_has (contract_at img) p (field_in img p) d f) (sym (n.is p) ∙ e) (layouts (contract_at img).structs)
 
   -- So generation reads an offset off them,
-  pub offset_one : (k : ℕ) → note_at N p ≡ some k → offset (contract_at img) p (field_in img p) ≡ k * 8
+  pub offset_one : (k : ℕ) → note_at N p ≡ Some k → offset (contract_at img) p (field_in img p) ≡ k * 8
   unfolding offset first_of
   offset_one k e = rw (noted_one k e)
 
-  pub offset_none : note_at N p ≡ none → offset (contract_at img) p (field_in img p) ≡ first_of (positions (field_in img p) (layouts (contract_at img).structs)) * 8
+  pub offset_none : note_at N p ≡ None → offset (contract_at img) p (field_in img p) ≡ first_of (positions (field_in img p) (layouts (contract_at img).structs)) * 8
   unfolding offset
   offset_none e = rw (noted_none e)
 
   -- and 30 is not given where there is a note.
-  pub clear_one : (k : ℕ) → note_at N p ≡ some k → is_ambiguous_lem (contract_at img) p (field_in img p) ≡ false
+  pub clear_one : (k : ℕ) → note_at N p ≡ Some k → is_ambiguous_lem (contract_at img) p (field_in img p) ≡ false
   unfolding is_ambiguous_lem apart differs
   clear_one k e = rw (noted_one k e)
 
-  pub clear_none : note_at N p ≡ none → is_ambiguous_lem (contract_at img) p (field_in img p) ≡ apart (positions (field_in img p) (layouts (contract_at img).structs))
+  pub clear_none : note_at N p ≡ None → is_ambiguous_lem (contract_at img) p (field_in img p) ≡ apart (positions (field_in img p) (layouts (contract_at img).structs))
   unfolding is_ambiguous_lem
   clear_none e = rw (noted_none e)

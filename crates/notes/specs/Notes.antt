@@ -1,7 +1,6 @@
 -- What the bytes of the notes say, and what analysis writes (02: P2).
 -- Assumes nothing.
-use Rattle.std.specs.Prelude.{List, [], ◌∷◌, ◌≡◌, ℕ, ◌+◌, ◌-◌, ◌*◌, ◌/◌, ◌%◌, eqb, length, get_or, set}
-use Rattle.std.proofs.Math.Option.{Option, none, some}
+use Rattle.std.specs.Prelude.{List, [], ◌∷◌, ◌≡◌, ℕ, ◌+◌, ◌-◌, ◌*◌, ◌/◌, ◌%◌, eqb, length, get_or, set, None, Option, Some}
 use Rattle.rules.specs.Bytes.{pick, Name, name_at}
 use Rattle.rules.specs.Tables.{first_index}
 use Rattle.rules.specs.Tree.{Struct, Contract}
@@ -12,13 +11,6 @@ use Rattle.rules.specs.Layout.{declared}
 use Rattle.rules.specs.Refusal.{Res, ok}
 use Rattle.rules.specs.Ambiguous.{first_ambiguous_lem}
 use Rattle.tables.specs.Listed.{Tabled}
-use Rattle.notes.specs.declared.Note.{Note}
-use Rattle.notes.specs.declared.Note.TheVariants as note
-
--- The position, if it is noted.
-unfoldable pub note_of : Note → Option ℕ
-note_of (note.At k) = some k
-note_of note.Nothing = none
 
 -- The notes, with the field of the access p at position k.
 unfoldable pub noted : List ℕ → (p k : ℕ) → List ℕ
@@ -30,7 +22,7 @@ left N = set N 21845 255
 
 -- What a byte says of the place p.
 unfoldable pub read_as_lem : (p byte : ℕ) → Option ℕ
-read_as_lem p v = pick (eqb v 0) none (pick (eqb ((v - 1) / 64) (p % 3)) (some ((v - 1) % 64)) none)
+read_as_lem p v = pick (eqb v 0) None (pick (eqb ((v - 1) / 64) (p % 3)) (Some ((v - 1) % 64)) None)
 
 -- What the notes say of it.
 unfoldable pub note_at : List ℕ → (p : ℕ) → Option ℕ
@@ -38,8 +30,8 @@ note_at N p = read_as_lem p (get_or N (p / 3) 0)
 
 -- The first position of a field in a struct, if there is one.
 unfoldable pub spot_in_lem : Option Struct → Name → Option ℕ
-spot_in_lem (some d) x = first_index field_name 0 x d.fields
-spot_in_lem none x = none
+spot_in_lem (Some d) x = first_index field_name 0 x d.fields
+spot_in_lem None x = None
 
 -- 02: P2: where the field of an access stands in the declared struct that its base is of.
 unfoldable pub spot_of : Contract → Access → Option ℕ
@@ -47,8 +39,8 @@ spot_of C a = spot_in_lem (declared C a.base) a.field
 
 -- What is written for it.
 unfoldable pub marked : List ℕ → (p : ℕ) → Option ℕ → List ℕ
-marked N p (some k) = noted N p k
-marked N p none = left N
+marked N p (Some k) = noted N p k
+marked N p None = left N
 
 -- What is written for several, in turn.
 unfoldable pub written : Contract → List ℕ → List Access → List ℕ
@@ -62,7 +54,7 @@ field_in img p = name_at img (second img p)
 -- What analysis leaves behind: at every place of an image, where the access there finds its field, if its base is of a declared struct; and
 -- where none is left to the search there is no 30.
 pub record Noted (img N : List ℕ) : Type 0 where
-  pub clear : get_or N 21845 0 ≡ 0 → first_ambiguous_lem (contract_at img) ≡ none
+  pub clear : get_or N 21845 0 ≡ 0 → first_ambiguous_lem (contract_at img) ≡ None
   pub is : (p : ℕ) → note_at N p ≡ spot_in_lem (declared (contract_at img) (base_at p (field_in img p) (accesses (contract_at img)))) (field_in img p)
 
 -- What generation and 30 go by: the tables and the notes of an image.

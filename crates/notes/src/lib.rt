@@ -4,17 +4,10 @@
 #![tactic(auto)]
 
 ghost use Rattle.std.specs.Prelude.{◌≡◌, ◌<◌, get_or, eqb};
-ghost use Rattle.notes.specs.Notes.{noted, left, read_as_lem, note_at, note_of};
+ghost use Rattle.notes.specs.Notes.{noted, left, read_as_lem, note_at};
 
 // A byte for three places of an image of 65,536 bytes.
 pub const SIZE: usize = 21846;
-
-// The position of an access's field, if it is noted.
-#[derive(Clone, Copy)]
-pub enum Note {
-    At(usize),
-    Nothing,
-}
 
 // Notes that the field of the access at p stands at position k.
 pub fn set(notes: &mut [u8], p: usize, k: usize)
@@ -50,27 +43,27 @@ fn wide(x: u8) -> usize
 }
 
 // What a byte says of the place p.
-fn read(p: usize, v: usize) -> Note
-    ensures { note_of result ≡ read_as_lem p v }
+fn read(p: usize, v: usize) -> Option<usize>
+    ensures { result ≡ read_as_lem p v }
 {
     if v == 0 {
-        return Note::Nothing;
+        return None;
     }
     if (v - 1) / 64 == p % 3 {
-        Note::At((v - 1) % 64)
+        Some((v - 1) % 64)
     } else {
-        Note::Nothing
+        None
     }
 }
 
 // The note of the access at p.
-pub fn get(notes: &[u8], p: usize) -> Note
-    ensures { note_of result ≡ note_at notes.now p }
+pub fn get(notes: &[u8], p: usize) -> Option<usize>
+    ensures { result ≡ note_at notes.now p }
 {
     let i = p / 3;
     if i < notes.len() {
         read(p, wide(notes[i]))
     } else {
-        Note::Nothing
+        None
     }
 }

@@ -1,8 +1,7 @@
 -- Why a word is there (02: P5): the record whose own translation emitted it, whether 000 patched it later, and where its offset leads.
 -- Every open word has its record from the start (Emit), so that marking is no second translation: the build's words are these, linked.
 -- Assumes nothing.
-use Rattle.std.specs.Prelude.{true, false, List, ◌++◌, ℕ, suc, ◌+◌, ◌-◌}
-use Rattle.std.proofs.Math.Option.{Option, none, some}
+use Rattle.std.specs.Prelude.{true, false, List, ◌++◌, ℕ, suc, ◌+◌, ◌-◌, None, Option, Some}
 use Rattle.rules.specs.declared.Why.{Why}
 use Rattle.rules.specs.Bytes.{pick}
 use Rattle.rules.specs.Tables.{last, mapped, nth}
@@ -26,8 +25,8 @@ landing i (Imm.neg d) = i - d
 
 -- 000: patch_jump: the target that a patched word's offset came from: what a jump leads to, a call's last function of the name. None: not patched.
 unfoldable pub target_of : List Entry → (own : ℕ) → Open → Option ℕ
-target_of T i (word p false w) = none
-target_of T i (word p true w) = some (landing i w.imm)
+target_of T i (word p false w) = None
+target_of T i (word p true w) = Some (landing i w.imm)
 target_of T i (calls p f) = mapped (λ (e : Entry). e.first) (last (λ (e : Entry). e.name) f T)
 
 -- 000: generate, before the calls are linked: each word with its record
@@ -44,18 +43,18 @@ marked_of img = do
 
 -- 02: P5: an answer, with the target of a patched word
 unfoldable pub because : (refusal place : ℕ) → Option ℕ → Why
-because r p none = record { refusal = r; place = p; patched = false; target = 0 }
-because r p (some t) = record { refusal = r; place = p; patched = true; target = t }
+because r p None = record { refusal = r; place = p; patched = false; target = 0 }
+because r p (Some t) = record { refusal = r; place = p; patched = true; target = t }
 
 -- 02: 53: no word has the index
 unfoldable pub word_why : List Entry → (index : ℕ) → Option Open → Why
-word_why T i none = because 53 0 none
-word_why T i (some o) = because 0 (mark_of o) (target_of T i o)
+word_why T i None = because 53 0 None
+word_why T i (Some o) = because 0 (mark_of o) (target_of T i o)
 
 -- 02: the build's own refusals come first
 unfoldable pub why_in : (index : ℕ) → Res Built → Why
 why_in i (ok b) = word_why b.table i (nth i b.code)
-why_in i (bad q) = because (number_of q) (place_of q) none
+why_in i (bad q) = because (number_of q) (place_of q) None
 
 -- 02: P5: the whole answer, of any image and any index
 unfoldable pub why_of : (img : List ℕ) (index : ℕ) → Why

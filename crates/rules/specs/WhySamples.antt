@@ -1,7 +1,6 @@
 -- Why each word of some contracts is there (02: P5), by computation: the places of the records, and where the offsets of patched words came from.
 -- Assumes nothing.
-use Rattle.std.specs.Prelude.{◌≡◌, refl, List, [], ◌∷◌, ◌++◌, map, ℕ, suc, ◌^◌, replicate, take}
-use Rattle.std.proofs.Math.Option.{none}
+use Rattle.std.specs.Prelude.{◌≡◌, refl, List, [], ◌∷◌, ◌++◌, map, ℕ, suc, ◌^◌, replicate, take, None}
 use Rattle.rules.specs.Bytes.{pick, Name}
 use Rattle.rules.specs.Emit.{count}
 use Rattle.rules.specs.Compute.{computed_why}
@@ -66,10 +65,10 @@ targets n img = map (λ (i : ℕ). pick (computed_why img i).patched (suc (compu
 record Samples : Type 0 where
   C1 : places 10 (main_of []) ≡ 0 ∷ 0 ∷ 0 ∷ replicate 7 31
   C1_targets : targets 10 (main_of []) ≡ 0 ∷ 4 ∷ replicate 8 0
-  C1_past : computed_why (main_of []) 10 ≡ because 53 0 none
-  C1_far : computed_why (main_of []) 18446744073709551615 ≡ because 53 0 none
-  C2 : computed_why (take 71 (main_of [])) 0 ≡ because 2 0 none
-  C9 : computed_why (contract [] [] (function f [] [] ∷ [])) 0 ≡ because 40 0 none
+  C1_past : computed_why (main_of []) 10 ≡ because 53 0 None
+  C1_far : computed_why (main_of []) 18446744073709551615 ≡ because 53 0 None
+  C2 : computed_why (take 71 (main_of [])) 0 ≡ because 2 0 None
+  C9 : computed_why (contract [] [] (function f [] [] ∷ [])) 0 ≡ because 40 0 None
   C15 : places 14 (main_of (just (int (2 ^ 60)) ∷ [])) ≡ 0 ∷ 0 ∷ 0 ∷ 31 ∷ 31 ∷ replicate 4 78 ++ replicate 5 31
   C6 : places 13 (main_of (if_then (int 1) [] ∷ [])) ≡ 0 ∷ 0 ∷ 0 ∷ 31 ∷ 31 ∷ 78 ∷ 72 ∷ 72 ∷ replicate 5 31
   C6_targets : targets 13 (main_of (if_then (int 1) [] ∷ [])) ≡ 0 ∷ 4 ∷ 0 ∷ 0 ∷ 0 ∷ 0 ∷ 9 ∷ 9 ∷ replicate 5 0

@@ -6,11 +6,10 @@
 --     Own, found_own    it is a of every word
 --     Long              so many words; found_front, found_back: in the steps before them, in these
 -- Assumes nothing.
-use Rattle.std.specs.Prelude.{◌≡◌, refl, Bool, List, [], ◌∷◌, ◌++◌, map, ℕ, zero, suc, ◌+◌, ◌-◌, ◌≤◌, ◌<◌, length}
+use Rattle.std.specs.Prelude.{◌≡◌, refl, Bool, List, [], ◌∷◌, ◌++◌, map, ℕ, zero, suc, ◌+◌, ◌-◌, ◌≤◌, ◌<◌, length, None, Option, Some}
 use Rattle.std.proofs.Common.{sym, ap, ◌∙◌, le_of_suc-le-suc, not-suc-le-zero, suc-add, zero-add, arith}
 use Rattle.std.proofs.Math.Path.{subst}
 use Rattle.std.proofs.Math.Bool.{true, false}
-use Rattle.std.proofs.Math.Option.{Option, none, some}
 use Rattle.rules.specs.Bytes.{pick}
 use Rattle.rules.specs.Tables.{nth}
 use Rattle.rules.specs.Refusal.{Res, ok, bad}
@@ -32,24 +31,24 @@ nth_later [] ys i = ap (λ (k : ℕ). nth k ys) (zero-add i)
 nth_later (x ∷ xs) ys i = ap (λ (k : ℕ). nth k (x ∷ (xs ++ ys))) (suc-add (length xs) i) ∙ nth_later xs ys i
 
 abbrev IsSome : {A : Type 0} → Option A → Type 0
-IsSome none = ⊥
-IsSome (some a) = Unit {0}
+IsSome None = ⊥
+IsSome (Some a) = Unit {0}
 
-pub nth_low : {A : Type 0} (xs : List A) (i : ℕ) (x : A) → nth i xs ≡ some x → i < length xs
+pub nth_low : {A : Type 0} (xs : List A) (i : ℕ) (x : A) → nth i xs ≡ Some x → i < length xs
 unfolding nth
 nth_low [] i x e = absurd (subst IsSome (sym e) tt)
 nth_low (y ∷ xs) zero x e = omega arith
 nth_low (y ∷ xs) (suc i) x e = omega (arith, nth_low xs i x e)
 
 abbrev value_of : {A : Type 0} → A → Option A → A
-value_of a none = a
-value_of a (some b) = b
+value_of a None = a
+value_of a (Some b) = b
 
-pub some_same : {A : Type 0} {x y : A} → some x ≡ some y → x ≡ y
+pub some_same : {A : Type 0} {x y : A} → Some x ≡ Some y → x ≡ y
 some_same {A} {x} e = ap (value_of x) e
 
 pub record Found {A S : Type 0} (f : Open → S) (m : Res (Out A)) (s : Tally) (end want : ℕ) (a : S) : Type 0 where
-  pub is : s.err ≡ 0 → (o : Out A) → m ≡ ok o → end ≡ s.n + length o.words → end < 4294967295 → s.n ≤ want → (w : Open) → nth (want - s.n) o.words ≡ some w → a ≡ f w
+  pub is : s.err ≡ 0 → (o : Out A) → m ≡ ok o → end ≡ s.n + length o.words → end < 4294967295 → s.n ≤ want → (w : Open) → nth (want - s.n) o.words ≡ Some w → a ≡ f w
 
 module _ {A B S : Type 0} (f : Open → S) {s r : Tally} {v : A} {m : Res (Out A)} {end want : ℕ} {a : S} (k : A → Res (Out B)) (g : Goes s r v m) where
   pub found_first : want < r.n → Found f m s r.n want a → Found f (m >>= k) s end want a
@@ -96,7 +95,7 @@ pub each_append : {S : Type 0} {f : Open → S} {a : S} (xs ys : List Open) → 
 each_append [] ys h g = g
 each_append (x ∷ xs) ys (each_more _ _ e h) g = each_more x (xs ++ ys) e (each_append xs ys h g)
 
-pub each_at : {S : Type 0} {f : Open → S} {a : S} (ws : List Open) (i : ℕ) (w : Open) → Each f a ws → nth i ws ≡ some w → a ≡ f w
+pub each_at : {S : Type 0} {f : Open → S} {a : S} (ws : List Open) (i : ℕ) (w : Open) → Each f a ws → nth i ws ≡ Some w → a ≡ f w
 unfolding nth
 each_at [] i w h e = absurd (subst IsSome (sym e) tt)
 each_at {S} {f} (x ∷ ws) zero w (each_more _ _ z h) e = z ∙ ap f (some_same e)

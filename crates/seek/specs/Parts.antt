@@ -4,11 +4,10 @@
 --     takes_fresh, fresh_own, fresh_past      a new register and the word that fills it
 --     binary_left, .., user_own               from an expression of each kind; kind_in, kind_own: by its number
 -- Assumes nothing.
-use Rattle.std.specs.Prelude.{◌≡◌, Bool, eqb}
+use Rattle.std.specs.Prelude.{◌≡◌, Bool, eqb, None, Option, Some}
 use Rattle.std.proofs.Math.Path.{refl, sym, ap, subst}
 use Rattle.std.proofs.Common.{◌∙◌, arith}
 use Rattle.std.proofs.Math.Bool.{true, false}
-use Rattle.std.proofs.Math.Option.{Option, none, some}
 use mathlib.Core.List.{List, [], ◌∷◌, ◌++◌, map, reverse}
 use Prim.Native.Nat.{ℕ, zero, suc, ◌+◌, ◌-◌, ◌%◌, ◌≤◌, ◌<◌}
 use Rattle.std.proofs.Math.ListN.{length, length-append}
@@ -138,7 +137,7 @@ count_length a zero = refl
 count_length a (suc k) = ap suc (count_length (suc a) k)
 
 -- What stands around one word.
-around : {S : Type 0} {f : Open → S} {a : S} (xs ys : List Open) (c : Open) (i : ℕ) (w : Open) → Each f a xs → Each f a ys → (i ≡ length xs → ⊥) → nth i (xs ++ (c ∷ ys)) ≡ some w → a ≡ f w
+around : {S : Type 0} {f : Open → S} {a : S} (xs ys : List Open) (c : Open) (i : ℕ) (w : Open) → Each f a xs → Each f a ys → (i ≡ length xs → ⊥) → nth i (xs ++ (c ∷ ys)) ≡ Some w → a ≡ f w
 unfolding nth
 around [] ys c zero w h g z e = absurd (z refl)
 around [] ys c (suc i) w h g z e = each_at ys i w g e
@@ -288,42 +287,42 @@ module _ {img scope : List ℕ} {R : Rules} {d want end i : ℕ} {st : St} {r : 
       let g = subst (λ (b : Option Builtin). Calls img scope R d i st end want b r) (f ∙ ap (λ (y : ℕ). builtin (name_at img y)) e) h in
       record { leads = λ a j. g.leads a j }
 
-  pub poseidon_in : Listed img scope R d (args img scope R (args_at_lem d img i) st) i st want r → Calls img scope R d i st end want (some Builtin.poseidon) r
+  pub poseidon_in : Listed img scope R d (args img scope R (args_at_lem d img i) st) i st want r → Calls img scope R d i st end want (Some Builtin.poseidon) r
   unfolding gen_call spot_of
   poseidon_in w = record { leads = λ a h. list_own w _ (λ v. own_asks _ (λ q. own_says (each_more _ _ refl each_none) (λ u. own_done _))) h }
 
-  pub merkle_in : Listed img scope R d (args img scope R (args_at_lem d img i) st) i st want r → Calls img scope R d i st end want (some Builtin.merkle) r
+  pub merkle_in : Listed img scope R d (args img scope R (args_at_lem d img i) st) i st want r → Calls img scope R d i st end want (Some Builtin.merkle) r
   unfolding gen_call spot_of
   merkle_in w = record { leads = λ a h. list_own w _ (λ v. own_asks _ (λ q. own_says (each_more _ _ refl each_none) (λ u. own_done _))) h }
 
-  pub sender_own : {s : St} → r ≡ owned i s → Calls img scope R d i st end want (some Builtin.sender) r
+  pub sender_own : {s : St} → r ≡ owned i s → Calls img scope R d i st end want (Some Builtin.sender) r
   unfolding gen_call spot_of
   sender_own e = record { leads = λ a h. mine e (own_asks _ (λ q. own_says (each_more _ _ refl each_none) (λ u. own_done _))) h }
 
-  pub nonce_own : {s : St} → r ≡ owned i s → Calls img scope R d i st end want (some Builtin.nonce) r
+  pub nonce_own : {s : St} → r ≡ owned i s → Calls img scope R d i st end want (Some Builtin.nonce) r
   unfolding gen_call spot_of
   nonce_own e = record { leads = λ a h. mine e (own_asks _ (λ q. own_says (each_more _ _ refl each_none) (λ u. own_done _))) h }
 
-  pub number_own : {s : St} → r ≡ owned i s → Calls img scope R d i st end want (some Builtin.block-number) r
+  pub number_own : {s : St} → r ≡ owned i s → Calls img scope R d i st end want (Some Builtin.block-number) r
   unfolding gen_call spot_of
   number_own e = record { leads = λ a h. mine e (own_asks _ (λ q. own_says (each_more _ _ refl each_none) (λ u. own_done _))) h }
 
   -- of a function: the saves
-  pub user_first : {k : ℕ} {b x : St} → k ≡ st.next - 1 → Saves st k b → want < b.n → r ≡ owned i x → Calls img scope R d i st end want none r
+  pub user_first : {k : ℕ} {b x : St} → k ≡ st.next - 1 → Saves st k b → want < b.n → r ≡ owned i x → Calls img scope R d i st end want None r
   unfolding gen_call spot_of
   user_first q s l e = record {
     leads = λ a h. is_found (stays e h) (found_first (told img want) _ (saving i q s) l (found_own (own_say (each_map (push i) (count 1 (st.next - 1)) (λ x. refl)))));
   }
 
   -- the arguments
-  pub user_in : {k : ℕ} {b : St} → k ≡ st.next - 1 → Saves st k b → b.n ≤ want → r.way ≡ 3 → Listed img scope R d (args img scope R (args_at_lem d img i) st) i b want r → Calls img scope R d i st end want none r
+  pub user_in : {k : ℕ} {b : St} → k ≡ st.next - 1 → Saves st k b → b.n ≤ want → r.way ≡ 3 → Listed img scope R d (args img scope R (args_at_lem d img i) st) i b want r → Calls img scope R d i st end want None r
   unfolding gen_call
   user_in q s l e (spots.within f g) = record { leads = λ a h. found_later (told img want) _ (saving i q s) l (g a h _ end) }
   user_in q s l e (spots.past t f g) = absurd (omega (arith, sym (ap (λ (x : Step). x.way) f) ∙ e))
 
   -- the Call
   pub user_call : {k x g : ℕ} {b z : St} {w : Step} → k ≡ st.next - 1 → Saves st k b → b.n ≤ want → (w.way ≡ 3 → ⊥) → Listed img scope R d (args img scope R (args_at_lem d img i) st) i b want w
-      → eqb (want + k + 2) end ≡ true → x ≡ inside img i → g ≡ function_in img (name_at img x) → r ≡ calling i g z → Calls img scope R d i st end want none r
+      → eqb (want + k + 2) end ≡ true → x ≡ inside img i → g ≡ function_in img (name_at img x) → r ≡ calling i g z → Calls img scope R d i st end want None r
   unfolding gen_call spot_of
   user_call q s l n (spots.within f h) m e v c = absurd (n f)
   user_call {k} {x} {g} q s l n (spots.past t f h) m e v c = record {
@@ -335,7 +334,7 @@ module _ {img scope : List ℕ} {R : Rules} {d want end i : ℕ} {st : St} {r : 
 
   -- and what stands around it
   pub user_own : {k : ℕ} {b z : St} {w : Step} → k ≡ st.next - 1 → Saves st k b → b.n ≤ want → (w.way ≡ 3 → ⊥) → Listed img scope R d (args img scope R (args_at_lem d img i) st) i b want w
-      → eqb (want + k + 2) end ≡ false → r ≡ owned i z → Calls img scope R d i st end want none r
+      → eqb (want + k + 2) end ≡ false → r ≡ owned i z → Calls img scope R d i st end want None r
   unfolding gen_call
   user_own q s l n (spots.within f h) m c = absurd (n f)
   user_own {k} q s l n (spots.past t f h) m c = record {

@@ -5,8 +5,7 @@
 --     Listed      the parts of a list
 --     Leads       a step from an expression of a kind; Steps: of any; Calls: from a call
 -- Assumes nothing.
-use Rattle.std.specs.Prelude.{◌≡◌, true, false, List, ℕ, suc, ◌%◌, ◌≤◌, ◌<◌}
-use Rattle.std.proofs.Math.Option.{Option}
+use Rattle.std.specs.Prelude.{◌≡◌, true, false, List, ℕ, suc, ◌%◌, ◌≤◌, ◌<◌, Option}
 use Rattle.rules.specs.Tree.{Function, Contract, Expr, Exprs, Inits}
 use Rattle.rules.specs.Tables.{last_index}
 use Rattle.rules.specs.Read.{Kind, expr_as, expr_at, name_in, contract_at}

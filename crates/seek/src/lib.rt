@@ -4,8 +4,7 @@
 // leads to one part, and find_expr goes on from there, the depth falling. `want` is the word's number, `end` that of the word behind the record's last.
 #![tactic(auto)]
 
-ghost use Rattle.std.specs.Prelude.{◌≡◌, ◌+◌, eqb};
-ghost use Rattle.std.proofs.Math.Option.{none};
+ghost use Rattle.std.specs.Prelude.{◌≡◌, ◌+◌, eqb, None};
 ghost use Rattle.rules.specs.Read.{expr_at, exprs_from, inits_from, kMapping, kAccess, kLiteral, kBinary, kCall};
 ghost use Rattle.notes.specs.Notes.{Known};
 ghost use Rattle.expr.specs.Made.{args_at_lem};
@@ -361,7 +360,7 @@ fn in_user(
     want: usize,
 ) -> Step
     requires { Known img.now tables.now notes.now }
-    ensures { Calls img.now scope.now rules d at st end want none result }
+    ensures { Calls img.now scope.now rules d at st end want None result }
 {
     let k = emit::less_one(st.next);
     let a = saved(st, k);
@@ -399,12 +398,11 @@ fn in_call(
     ensures { Leads img.now scope.now rules d kCall at st end want result }
 {
     match names::builtin_named(img, records::body(img, at)) {
-        Builtin::Poseidon => in_list(img, tables, notes, scope, rules, d, at, st, want),
-        Builtin::Merkle => in_list(img, tables, notes, scope, rules, d, at, st, want),
-        Builtin::Sender => own(at, st),
-        Builtin::Nonce => own(at, st),
-        Builtin::BlockNumber => own(at, st),
-        Builtin::Nothing => in_user(img, tables, notes, scope, rules, d, at, st, end, want),
+        Some(Builtin::Poseidon | Builtin::Merkle) => in_list(
+            img, tables, notes, scope, rules, d, at, st, want,
+        ),
+        Some(Builtin::Sender | Builtin::Nonce | Builtin::BlockNumber) => own(at, st),
+        None => in_user(img, tables, notes, scope, rules, d, at, st, end, want),
     }
 }
 

@@ -1,12 +1,12 @@
 -- The functions of a contract in turn.
+use Rattle.std.specs.Prelude.{}
 use mathlib.Core.List.{List, [], ◌∷◌, map}
 use mathlib.Core.Path.{◌≡◌, refl, sym}
 use Prim.Native.Nat.{ℕ, zero, suc, ◌+◌, ◌*◌, ◌≤◌, ◌<◌}
 use native.Mathlib.Omega.{arith}
 use native.Mathlib.Numerals.{add-one}
 use lib.ListN.{length, get_or, drop}
-use Rattle.rules.specs.declared.Seen.{Seen}
-use Rattle.rules.specs.declared.Seen.TheVariants.{Sound, Fault}
+use Rattle.rules.specs.Seen.{Seen, Sound, Fault}
 use Rattle.rules.specs.Check.{check_of}
 use Rattle.rules.specs.Tree.{Function}
 use Rattle.rules.specs.Refusal.{Refusal, Res, ok, bad}

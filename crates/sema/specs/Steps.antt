@@ -3,7 +3,7 @@
 --     Stepped, Step, Steps     the array, the cells in use, the answer and the notes
 --     Bound                    the parameters of a function
 -- Assumes nothing.
-use Rattle.std.specs.Prelude.{List, map, ◌≡◌, ℕ, ◌+◌, ◌*◌, ◌≤◌, ◌<◌, length, get_or}
+use Rattle.std.specs.Prelude.{List, map, ◌≡◌, ℕ, ◌+◌, ◌*◌, ◌≤◌, ◌<◌, length, get_or, Err, Ok, Result}
 use Rattle.rules.specs.Bytes.{Name}
 use Rattle.rules.specs.Tree.{Expr, Stmt, Stmts, Function, Contract}
 use Rattle.rules.specs.Types.{Typ, Env, with_name}
@@ -11,11 +11,10 @@ use Rattle.rules.specs.Refusal.{Res, ok, bad, ◌>>=◌}
 use Rattle.rules.specs.Analyse.{expr, stmt, stmts, with_params}
 use Rattle.rules.specs.Read.{StmtKind, expr_at, stmt_as, stmt_at_lem, body_at, else_at, contract_at, field_at}
 use Rattle.bounds.specs.Sizes.{vars, vars-stmts}
+use Rattle.lookup.specs.declared.Fault.{Fault}
 use Rattle.lookup.specs.Answers.{fault_of, env_of}
 use Rattle.rules.specs.Meant.{Access, of_stmt, of_stmts}
 use Rattle.notes.specs.Notes.{Wrote}
-use Rattle.sema.specs.declared.After.{After}
-use Rattle.sema.specs.declared.After.TheVariants as after
 
 -- the record at i taken as one of a kind, d records deep at most below it
 abbrev pub stmt_of : StmtKind → ℕ → List ℕ → ℕ → Stmt
@@ -28,27 +27,27 @@ body_of d img l = body_at (stmt_at_lem d img) img l
 abbrev pub else_of : ℕ → List ℕ → ℕ → ℕ → Stmts
 else_of d img l e = else_at (stmt_at_lem d img) img l e
 
-unfoldable pub after_of : List ℕ → List ℕ → After → Res Env
-after_of img e (after.Top k) = ok (env_of img e k)
-after_of img e (after.Refused f) = bad (fault_of img f)
+unfoldable pub after_of : List ℕ → List ℕ → Result ℕ Fault → Res Env
+after_of img e (Ok k) = ok (env_of img e k)
+after_of img e (Err f) = bad (fault_of img f)
 
-unfoldable pub Within : ℕ → ℕ → After → Type 0
-Within a b (after.Top k) = (a ≤ k) × (k ≤ b)
-Within a b (after.Refused f) = Unit {0}
+unfoldable pub Within : ℕ → ℕ → Result ℕ Fault → Type 0
+Within a b (Ok k) = (a ≤ k) × (k ≤ b)
+Within a b (Err f) = Unit {0}
 
 -- the array e, in use up to top, becomes e': below top it is as it was, and at most 2 times m cells more are in use; the notes N become N', with
 -- those of the accesses l, if there is no refusal (02: P2)
-pub record Stepped (img e e' N N' : List ℕ) (top m : ℕ) (r : After) (o : Res Env) (l : List Access) : Type 0 where
+pub record Stepped (img e e' N N' : List ℕ) (top m : ℕ) (r : Result ℕ Fault) (o : Res Env) (l : List Access) : Type 0 where
   pub answer : after_of img e' r ≡ o
   pub within : Within top (top + 2 * m) r
   pub kept : (i : ℕ) → i < top → get_or e' i 0 ≡ get_or e i 0
   pub size : length e' ≡ length e
   pub notes : Wrote (contract_at img) N N' l (after_of img e' r)
 
-abbrev pub Step : (img e e' N N' : List ℕ) (top : ℕ) (r : After) (R : Typ) → Stmt → Type 0
+abbrev pub Step : (img e e' N N' : List ℕ) (top : ℕ) (r : Result ℕ Fault) (R : Typ) → Stmt → Type 0
 Step img e e' N N' top r R s = Stepped img e e' N N' top (vars s) r (stmt (contract_at img) R s (env_of img e top)) (of_stmt (contract_at img) R s (env_of img e top))
 
-abbrev pub Steps : (img e e' N N' : List ℕ) (top : ℕ) (r : After) (R : Typ) → Stmts → Type 0
+abbrev pub Steps : (img e e' N N' : List ℕ) (top : ℕ) (r : Result ℕ Fault) (R : Typ) → Stmts → Type 0
 Steps img e e' N N' top r R ss = Stepped img e e' N N' top (vars-stmts ss) r (stmts (contract_at img) R ss (env_of img e top)) (of_stmts (contract_at img) R ss (env_of img e top))
 
 -- an expression alone

@@ -6,19 +6,31 @@ ghost use Rattle.rules.specs.Build.{analysed, judged, analysis_answer};
 ghost use Rattle.rules.specs.Read.{contract_at};
 ghost use Rattle.notes.specs.Notes.{Known, Blank};
 ghost use Rattle.sema.specs.Entry.{Passed};
-ghost use Rattle.sema.specs.Front.{judged_of, spotted, Judges};
+ghost use Rattle.sema.specs.Front.{refused_of, judged_of, spotted, Judges};
+ghost use Rattle.rules.specs.Refusal.{refused};
 
-use ambiguous::Spot;
-use lookup::{Checked, Fault};
+use lookup::Fault;
 use rules::{Answer, Seen};
 
-// Rows 1 to 7: number and place. Rows 10 to 22. Row 30: its place. None.
+// Rows 1 to 7: number and place. Rows 10 to 22. Row 30: its place.
 #[derive(Clone, Copy)]
-pub enum Judged {
+pub enum Refused {
     Image(usize, usize),
     Analysis(Fault),
     Ambiguous(usize),
-    Fine,
+}
+
+impl Refused {
+    // 01: What comes back: its number and its place
+    pub fn answer(self) -> Answer
+        ensures { (img : List ℕ) → result ≡ refused (refused_of img self) }
+    {
+        match self {
+            Refused::Image(number, place) => crate::answer_at(number as u64, place),
+            Refused::Analysis(fault) => crate::refusal(fault),
+            Refused::Ambiguous(place) => crate::answer_at(30, place),
+        }
+    }
 }
 
 // The tables and the analysis of an image that passed the check.
@@ -27,15 +39,12 @@ fn behind_check(
     names: &mut [usize; records::NAMES],
     notes: &mut [u8; notes::SIZE],
     image: &[u8],
-) -> Judged
+) -> Result<(), Refused>
     requires { Passed image.now × Blank notes.old }
     ensures { Judges image.now (analysed image.now) tables.new notes.new result }
 {
     tables::fill_tables(tables, image);
-    match crate::analyse_checked(names, notes, image, tables) {
-        Checked::Fine => Judged::Fine,
-        Checked::Refused(f) => Judged::Analysis(f),
-    }
+    crate::analyse_checked(names, notes, image, tables).map_err(Refused::Analysis)
 }
 
 // 01: image, analysis
@@ -44,13 +53,13 @@ pub(crate) fn analysis(
     names: &mut [usize; records::NAMES],
     notes: &mut [u8; notes::SIZE],
     image: &[u8],
-) -> Judged
+) -> Result<(), Refused>
     requires { Blank notes.old }
     ensures { Judges image.now (analysed image.now) tables.new notes.new result }
 {
     match image::check(image) {
-        Seen::Fault(number, place) => Judged::Image(number, place),
-        Seen::Sound(_, _) => behind_check(tables, names, notes, image),
+        Err((number, place)) => Err(Refused::Image(number, place)),
+        Ok(_) => behind_check(tables, names, notes, image),
     }
 }
 
@@ -60,13 +69,13 @@ fn ambiguity(
     image: &[u8],
     tables: &[usize],
     notes: &[u8; notes::SIZE],
-) -> Judged
+) -> Result<(), Refused>
     requires { Known image.now tables.now notes.now }
     ensures { result ≡ spotted (first_ambiguous_lem (contract_at image.now)) }
 {
     match ambiguous::first_ambiguous(names, image, tables, notes) {
-        Spot::At(place) => Judged::Ambiguous(place),
-        Spot::Nowhere => Judged::Fine,
+        Some(place) => Err(Refused::Ambiguous(place)),
+        None => Ok(()),
     }
 }
 
@@ -76,27 +85,20 @@ pub fn judge(
     names: &mut [usize; records::NAMES],
     notes: &mut [u8; notes::SIZE],
     image: &[u8],
-) -> Judged
+) -> Result<(), Refused>
     requires { Blank notes.old }
     ensures { Judges image.now (judged image.now) tables.new notes.new result }
 {
-    let j = analysis(tables, names, notes, image);
-    match j {
-        Judged::Image(_, _) => j,
-        Judged::Analysis(_) => j,
-        Judged::Ambiguous(_) => j,
-        Judged::Fine => ambiguity(names, image, tables, notes),
-    }
+    analysis(tables, names, notes, image)?;
+    ambiguity(names, image, tables, notes)
 }
 
 // 01: What comes back
-pub fn answer_of(j: Judged) -> Answer
-    ensures { (img : List ℕ) → result ≡ analysis_answer (judged_of img j) }
+pub fn answer_of(judged: Result<(), Refused>) -> Answer
+    ensures { (img : List ℕ) → result ≡ analysis_answer (judged_of img judged) }
 {
-    match j {
-        Judged::Image(number, place) => crate::answer_at(number as u64, place),
-        Judged::Analysis(f) => crate::refusal(f),
-        Judged::Ambiguous(place) => crate::answer_at(30, place),
-        Judged::Fine => crate::answer_at(0, 0),
+    match judged {
+        Ok(()) => crate::answer_at(0, 0),
+        Err(refused) => refused.answer(),
     }
 }

@@ -20,16 +20,8 @@ ghost use Rattle.bounds.specs.Sizes.{vars, vars-stmts};
 ghost use Rattle.sema.specs.Entry.{Passed, analysis};
 ghost use Rattle.sema.specs.Steps.{stmt_of, body_of, else_of, Stepped, Step, Steps, only, in_loop, Bound, names};
 
-use lookup::{Checked, Due, Fault, Got, Ty, Typed};
+use lookup::{Due, Fault, Ty};
 use rules::Answer;
-use typing::Args;
-
-// How many cells of the array are in use after a statement.
-#[derive(Clone, Copy)]
-pub enum After {
-    Top(usize),
-    Refused(Fault),
-}
 
 // A statement that is one expression.
 fn run_expr(
@@ -40,35 +32,30 @@ fn run_expr(
     d: usize,
     env: &[usize],
     top: usize,
-) -> After
+) -> Result<usize, Fault>
     requires { Tabled img.now tables.now }
     ensures { Stepped img.now env.now env.now notes.old notes.new top 0 result (only (contract_at img.now) (expr_at d img.now at) (env_of img.now env.now top)) (of_expr (contract_at img.now) (expr_at d img.now at) (env_of img.now env.now top)) }
 {
-    let t = typing::analyze_expr(notes, img, tables, at, d, env, top);
-    match t {
-        Typed::Is(_) => After::Top(top),
-        Typed::Refused(f) => After::Refused(f),
-    }
+    typing::analyze_expr(notes, img, tables, at, d, env, top)?;
+    Ok(top)
 }
 
-fn assigned(img: &[u8], at: usize, a: Ty, b: Ty, top: usize) -> After
+fn assigned(img: &[u8], at: usize, a: Ty, b: Ty, top: usize) -> Result<usize, Fault>
     ensures { (e N : List ℕ) → Stepped img.now e e N N top 0 result (unless (clash (ty_of img.now a) (ty_of img.now b)) (Refusal.assign_type at (ty_of img.now a) (ty_of img.now b)) (env_of img.now e top)) [] }
 {
     if lookup::clashing(img, a, b) {
-        After::Refused(Fault::Assign(at, a, b))
-    } else {
-        After::Top(top)
+        return Err(Fault::Assign(at, a, b));
     }
+    Ok(top)
 }
 
-fn returned(img: &[u8], at: usize, a: Ty, b: Ty, top: usize) -> After
+fn returned(img: &[u8], at: usize, a: Ty, b: Ty, top: usize) -> Result<usize, Fault>
     ensures { (e N : List ℕ) → Stepped img.now e e N N top 0 result (unless (clash (ty_of img.now a) (ty_of img.now b)) (Refusal.return_type at (ty_of img.now a) (ty_of img.now b)) (env_of img.now e top)) [] }
 {
     if lookup::clashing(img, a, b) {
-        After::Refused(Fault::Return(at, a, b))
-    } else {
-        After::Top(top)
+        return Err(Fault::Return(at, a, b));
     }
+    Ok(top)
 }
 
 // 001: analyze_stmt, Assign: an undefined target comes before the expression.
@@ -80,22 +67,14 @@ fn analyze_assign(
     d: usize,
     env: &[usize],
     top: usize,
-) -> After
+) -> Result<usize, Fault>
     requires { Tabled img.now tables.now }
     ensures { (R : Typ) → Step img.now env.now env.now notes.old notes.new top result R (stmt_of sAssign d img.now at) }
 {
     let x = records::body(img, at);
-    let g = lookup::find_local(img, env, top, x);
-    match g {
-        Got::Type(a) => {
-            let t = typing::analyze_expr(notes, img, tables, records::past(img, x), d, env, top);
-            match t {
-                Typed::Is(b) => assigned(img, at, a, b, top),
-                Typed::Refused(f) => After::Refused(f),
-            }
-        }
-        Got::Missing => After::Refused(Fault::Target(at, x)),
-    }
+    let a = lookup::find_local(img, env, top, x).ok_or(Fault::Target(at, x))?;
+    let b = typing::analyze_expr(notes, img, tables, records::past(img, x), d, env, top)?;
+    assigned(img, at, a, b, top)
 }
 
 // 001: analyze_stmt, MappingWrite.
@@ -107,16 +86,13 @@ fn analyze_write(
     d: usize,
     env: &[usize],
     top: usize,
-) -> After
+) -> Result<usize, Fault>
     requires { Tabled img.now tables.now }
     ensures { (R : Typ) → Step img.now env.now env.now notes.old notes.new top result R (stmt_of sMapping d img.now at) }
 {
     let key = records::past(img, records::body(img, at));
-    let t = typing::analyze_expr(notes, img, tables, key, d, env, top);
-    match t {
-        Typed::Is(_) => run_expr(notes, img, tables, records::past(img, key), d, env, top),
-        Typed::Refused(f) => After::Refused(f),
-    }
+    typing::analyze_expr(notes, img, tables, key, d, env, top)?;
+    run_expr(notes, img, tables, records::past(img, key), d, env, top)
 }
 
 // 001: analyze_stmt, Return.
@@ -129,17 +105,14 @@ fn analyze_return(
     env: &[usize],
     top: usize,
     ret: Ty,
-) -> After
+) -> Result<usize, Fault>
     requires { Tabled img.now tables.now }
     ensures { Step img.now env.now env.now notes.old notes.new top result (ty_of img.now ret) (stmt_of sReturn d img.now at) }
 {
     let value = records::body(img, at);
     if value < records::past(img, at) {
-        let t = typing::analyze_expr(notes, img, tables, value, d, env, top);
-        match t {
-            Typed::Is(b) => returned(img, at, ret, b, top),
-            Typed::Refused(f) => After::Refused(f),
-        }
+        let b = typing::analyze_expr(notes, img, tables, value, d, env, top)?;
+        returned(img, at, ret, b, top)
     } else {
         returned(img, at, ret, Ty::Void, top)
     }
@@ -154,16 +127,13 @@ fn analyze_emit(
     d: usize,
     env: &[usize],
     top: usize,
-) -> After
+) -> Result<usize, Fault>
     requires { Tabled img.now tables.now }
     ensures { (R : Typ) → Step img.now env.now env.now notes.old notes.new top result R (stmt_of sEmit d img.now at) }
 {
     let list = records::past(img, records::body(img, at));
-    let v = typing::analyze_args(notes, img, tables, list, 65536, d, env, top, Due::Words(0));
-    match v {
-        Args::Done(_, _) => After::Top(top),
-        Args::Refused(f) => After::Refused(f),
-    }
+    typing::analyze_args(notes, img, tables, list, 65536, d, env, top, Due::Words(0))?;
+    Ok(top)
 }
 
 // 001: analyze_stmt, of a kind k that adds no name.
@@ -177,7 +147,7 @@ fn analyze_simple(
     env: &[usize],
     top: usize,
     ret: Ty,
-) -> After
+) -> Result<usize, Fault>
     requires { (Tabled img.now tables.now) × ((k ≡ 32 → ⊥) × ((k ≡ 37 → ⊥) × ((k ≡ 38 → ⊥) × (k ≡ 39 → ⊥)))) }
     ensures { Step img.now env.now env.now notes.old notes.new top result (ty_of img.now ret) (stmt_of (stmt_kind_of k) d img.now at) }
 {
@@ -197,7 +167,7 @@ fn analyze_simple(
         40 => analyze_return(notes, img, tables, at, d, env, top, ret),
         41 => analyze_emit(notes, img, tables, at, d, env, top),
         42 => run_expr(notes, img, tables, records::body(img, at), d, env, top),
-        _ => After::Top(top),
+        _ => Ok(top),
     }
 }
 
@@ -210,20 +180,17 @@ fn analyze_let(
     at: usize,
     d: usize,
     top: usize,
-) -> After
+) -> Result<usize, Fault>
     requires { (Tabled img.now tables.now) × (top + 2 ≤ length env.old) }
     ensures { (R : Typ) → Step img.now env.old env.new notes.old notes.new top result R (stmt_of sLet d img.now at) }
 {
     let x = records::body(img, at);
-    let t = typing::analyze_expr(notes, img, tables, records::past(img, x), d, env, top);
-    match t {
-        Typed::Is(b) => After::Top(lookup::push(env, img, top, x, b)),
-        Typed::Refused(f) => After::Refused(f),
-    }
+    let b = typing::analyze_expr(notes, img, tables, records::past(img, x), d, env, top)?;
+    Ok(lookup::push(env, img, top, x, b))
 }
 
 // The statements of the List at `at`.
-#[cycle(analyze_else_analyze_for_analyze_if_analyze_list_analyze_loop_analyze_stmt_analyze_while)]
+#[cycle(analyze_stmt)]
 fn analyze_list(
     env: &mut [usize],
     notes: &mut [u8; notes::SIZE],
@@ -233,7 +200,7 @@ fn analyze_list(
     d: usize,
     top: usize,
     ret: Ty,
-) -> After
+) -> Result<usize, Fault>
     requires { (Tabled img.now tables.now) × (top + 2 * vars-stmts (body_of d img.now at) ≤ length env.old) }
     ensures { Steps img.now env.old env.new notes.old notes.new top result (ty_of img.now ret) (body_of d img.now at) }
 {
@@ -243,25 +210,17 @@ fn analyze_list(
     let mut t = top;
     while k != 0 {
         if end <= p {
-            return After::Top(t);
+            return Ok(t);
         }
-        let a = analyze_stmt(env, notes, img, tables, p, d, t, ret);
-        match a {
-            After::Top(next) => {
-                t = next;
-                p = records::past(img, p);
-                k -= 1;
-            }
-            After::Refused(_) => {
-                return a;
-            }
-        }
+        t = analyze_stmt(env, notes, img, tables, p, d, t, ret)?;
+        p = records::past(img, p);
+        k -= 1;
     }
-    After::Top(t)
+    Ok(t)
 }
 
 // The List at `at`, if it stands before end.
-#[cycle(analyze_else_analyze_for_analyze_if_analyze_list_analyze_loop_analyze_stmt_analyze_while)]
+#[cycle(analyze_stmt)]
 fn analyze_else(
     env: &mut [usize],
     notes: &mut [u8; notes::SIZE],
@@ -272,19 +231,19 @@ fn analyze_else(
     d: usize,
     top: usize,
     ret: Ty,
-) -> After
+) -> Result<usize, Fault>
     requires { (Tabled img.now tables.now) × (top + 2 * vars-stmts (else_of d img.now at end) ≤ length env.old) }
     ensures { Steps img.now env.old env.new notes.old notes.new top result (ty_of img.now ret) (else_of d img.now at end) }
 {
     if at < end {
         analyze_list(env, notes, img, tables, at, d, top, ret)
     } else {
-        After::Top(top)
+        Ok(top)
     }
 }
 
 // 001: analyze_stmt, If. The names of `then` are there in `else`, and after it.
-#[cycle(analyze_else_analyze_for_analyze_if_analyze_list_analyze_loop_analyze_stmt_analyze_while)]
+#[cycle(analyze_stmt)]
 fn analyze_if(
     env: &mut [usize],
     notes: &mut [u8; notes::SIZE],
@@ -294,7 +253,7 @@ fn analyze_if(
     d: usize,
     top: usize,
     ret: Ty,
-) -> After
+) -> Result<usize, Fault>
     requires { (Tabled img.now tables.now) × (top + 2 * vars (stmt_of sIf d img.now at) ≤ length env.old) }
     ensures { Step img.now env.old env.new notes.old notes.new top result (ty_of img.now ret) (stmt_of sIf d img.now at) }
 {
@@ -302,21 +261,13 @@ fn analyze_if(
     let then = records::past(img, test);
     let other = records::past(img, then);
     let end = records::past(img, at);
-    let t = typing::analyze_expr(notes, img, tables, test, d, env, top);
-    match t {
-        Typed::Is(_) => {
-            let a = analyze_list(env, notes, img, tables, then, d, top, ret);
-            match a {
-                After::Top(k) => analyze_else(env, notes, img, tables, other, end, d, k, ret),
-                After::Refused(_) => a,
-            }
-        }
-        Typed::Refused(f) => After::Refused(f),
-    }
+    typing::analyze_expr(notes, img, tables, test, d, env, top)?;
+    let k = analyze_list(env, notes, img, tables, then, d, top, ret)?;
+    analyze_else(env, notes, img, tables, other, end, d, k, ret)
 }
 
 // 001: analyze_stmt, While.
-#[cycle(analyze_else_analyze_for_analyze_if_analyze_list_analyze_loop_analyze_stmt_analyze_while)]
+#[cycle(analyze_stmt)]
 fn analyze_while(
     env: &mut [usize],
     notes: &mut [u8; notes::SIZE],
@@ -326,29 +277,26 @@ fn analyze_while(
     d: usize,
     top: usize,
     ret: Ty,
-) -> After
+) -> Result<usize, Fault>
     requires { (Tabled img.now tables.now) × (top + 2 * vars (stmt_of sWhile d img.now at) ≤ length env.old) }
     ensures { Step img.now env.old env.new notes.old notes.new top result (ty_of img.now ret) (stmt_of sWhile d img.now at) }
 {
     let test = records::body(img, at);
-    let t = typing::analyze_expr(notes, img, tables, test, d, env, top);
-    match t {
-        Typed::Is(_) => analyze_list(
-            env,
-            notes,
-            img,
-            tables,
-            records::past(img, test),
-            d,
-            top,
-            ret,
-        ),
-        Typed::Refused(f) => After::Refused(f),
-    }
+    typing::analyze_expr(notes, img, tables, test, d, env, top)?;
+    analyze_list(
+        env,
+        notes,
+        img,
+        tables,
+        records::past(img, test),
+        d,
+        top,
+        ret,
+    )
 }
 
 // The body of a For, with its name at x; the names of both are dropped after it.
-#[cycle(analyze_else_analyze_for_analyze_if_analyze_list_analyze_loop_analyze_stmt_analyze_while)]
+#[cycle(analyze_stmt)]
 fn analyze_loop(
     env: &mut [usize],
     notes: &mut [u8; notes::SIZE],
@@ -359,20 +307,17 @@ fn analyze_loop(
     d: usize,
     top: usize,
     ret: Ty,
-) -> After
+) -> Result<usize, Fault>
     requires { (Tabled img.now tables.now) × (top + 2 * (suc (vars-stmts (body_of d img.now at))) ≤ length env.old) }
     ensures { Stepped img.now env.old env.new notes.old notes.new top (suc (vars-stmts (body_of d img.now at))) result (in_loop (contract_at img.now) (ty_of img.now ret) (name_at img.now x) (body_of d img.now at) (env_of img.now env.old top)) (of_stmts (contract_at img.now) (ty_of img.now ret) (body_of d img.now at) (with_name (name_at img.now x) Typ.u64 (env_of img.now env.old top))) }
 {
     let inner = lookup::push(env, img, top, x, Ty::U64);
-    let a = analyze_list(env, notes, img, tables, at, d, inner, ret);
-    match a {
-        After::Top(_) => After::Top(top),
-        After::Refused(_) => a,
-    }
+    analyze_list(env, notes, img, tables, at, d, inner, ret)?;
+    Ok(top)
 }
 
 // 001: analyze_stmt, For.
-#[cycle(analyze_else_analyze_for_analyze_if_analyze_list_analyze_loop_analyze_stmt_analyze_while)]
+#[cycle(analyze_stmt)]
 fn analyze_for(
     env: &mut [usize],
     notes: &mut [u8; notes::SIZE],
@@ -382,38 +327,30 @@ fn analyze_for(
     d: usize,
     top: usize,
     ret: Ty,
-) -> After
+) -> Result<usize, Fault>
     requires { (Tabled img.now tables.now) × (top + 2 * vars (stmt_of sFor d img.now at) ≤ length env.old) }
     ensures { Step img.now env.old env.new notes.old notes.new top result (ty_of img.now ret) (stmt_of sFor d img.now at) }
 {
     let x = records::body(img, at);
     let from = records::past(img, x);
     let to = records::past(img, from);
-    let t = typing::analyze_expr(notes, img, tables, from, d, env, top);
-    match t {
-        Typed::Is(_) => {
-            let u = typing::analyze_expr(notes, img, tables, to, d, env, top);
-            match u {
-                Typed::Is(_) => analyze_loop(
-                    env,
-                    notes,
-                    img,
-                    tables,
-                    records::past(img, to),
-                    x,
-                    d,
-                    top,
-                    ret,
-                ),
-                Typed::Refused(f) => After::Refused(f),
-            }
-        }
-        Typed::Refused(f) => After::Refused(f),
-    }
+    typing::analyze_expr(notes, img, tables, from, d, env, top)?;
+    typing::analyze_expr(notes, img, tables, to, d, env, top)?;
+    analyze_loop(
+        env,
+        notes,
+        img,
+        tables,
+        records::past(img, to),
+        x,
+        d,
+        top,
+        ret,
+    )
 }
 
 // 001: analyze_stmt, of the statement at `at`, d records deep at most, in a function that gives `ret`.
-#[cycle(analyze_else_analyze_for_analyze_if_analyze_list_analyze_loop_analyze_stmt_analyze_while)]
+#[cycle(analyze_stmt)]
 fn analyze_stmt(
     env: &mut [usize],
     notes: &mut [u8; notes::SIZE],
@@ -423,12 +360,12 @@ fn analyze_stmt(
     d: usize,
     top: usize,
     ret: Ty,
-) -> After
+) -> Result<usize, Fault>
     requires { (Tabled img.now tables.now) × (top + 2 * vars (stmt_at_lem d img.now at) ≤ length env.old) }
     ensures { Step img.now env.old env.new notes.old notes.new top result (ty_of img.now ret) (stmt_at_lem d img.now at) }
 {
     if d == 0 {
-        return After::Top(top);
+        return Ok(top);
     }
     let k = records::kind(img, at);
     match k {
@@ -468,7 +405,7 @@ fn analyze_function(
     img: &[u8],
     tables: &[usize],
     p: usize,
-) -> Checked
+) -> Result<(), Fault>
     requires { (Tabled img.now tables.now) × (2 * names (function_at img.now p) ≤ length env.old) }
     ensures { (checked_of img.now result ≡ function (contract_at img.now) (function_at img.now p)) × ((length env.new ≡ length env.old) × Wrote (contract_at img.now) notes.old notes.new (of_function (contract_at img.now) (function_at img.now p)) (checked_of img.now result)) }
 {
@@ -477,11 +414,8 @@ fn analyze_function(
     let body = records::past(img, records::past(img, gives));
     let top = push_params(env, img, params);
     let ret = lookup::user_ret(img, p);
-    let a = analyze_list(env, notes, img, tables, body, 64, top, ret);
-    match a {
-        After::Top(_) => Checked::Fine,
-        After::Refused(f) => Checked::Refused(f),
-    }
+    analyze_list(env, notes, img, tables, body, 64, top, ret)?;
+    Ok(())
 }
 
 // 001: analyze, of an image that the check passed, with its tables: the functions in turn. `env` is for the names in scope: 512 of them, two cells each.
@@ -490,7 +424,7 @@ fn analyse_checked(
     notes: &mut [u8; notes::SIZE],
     img: &[u8],
     tables: &[usize],
-) -> Checked
+) -> Result<(), Fault>
     requires { (Tabled img.now tables.now) × ((Passed img.now) × (1025 ≤ length env.old)) }
     ensures { (checked_of img.now result ≡ analysis img.now) × Wrote (contract_at img.now) notes.old notes.new (accesses (contract_at img.now)) (checked_of img.now result) }
 {
@@ -498,17 +432,10 @@ fn analyse_checked(
     let mut i = 0;
     while i < n {
         let p = tables::function_place(tables, i);
-        let a = analyze_function(env, notes, img, tables, p);
-        match a {
-            Checked::Fine => {
-                i += 1;
-            }
-            Checked::Refused(_) => {
-                return a;
-            }
-        }
+        analyze_function(env, notes, img, tables, p)?;
+        i += 1;
     }
-    Checked::Fine
+    Ok(())
 }
 
 // A refusal has no count.

@@ -5,9 +5,9 @@
 --     older      the next record to look at is an earlier one
 --     start, skip, hit, miss     the search's first step, its steps and its two ends
 -- Assumes nothing.
+use Rattle.std.specs.Prelude.{None, Some, Option}
 use mathlib.Core.Bool.{Bool, true, false}
 use mathlib.Core.List.{List, [], ◌∷◌}
-use mathlib.Core.Option.{Option, none, some}
 use mathlib.Core.Path.{◌≡◌, refl, sym, ap, ◌∙◌, subst}
 use Prim.Native.Nat.{ℕ, zero, suc, ◌+◌, ◌-◌, ◌%◌, ◌≤◌, ◌<◌}
 use native.Mathlib.Omega.{arith}
@@ -19,7 +19,6 @@ use Rattle.rules.specs.Tables.{or_else, last, last_index}
 use Rattle.rules.specs.Read.{name_in}
 use Rattle.records.specs.Keys.{key_of, differ}
 use Rattle.records.specs.Cells.{place_in, number_in}
-use Rattle.tables.specs.declared.Found.TheVariants as found
 use Rattle.tables.specs.Listed.{bucket_in, Listed, Named, place_of, index_of}
 
 module _ (n : ℕ → Name) (x : Name) where
@@ -29,14 +28,14 @@ module _ (n : ℕ → Name) (x : Name) where
   abbrev Is : List ℕ → ℕ → Option ℕ → Option ℕ → Type 0
   Is ps i p m = (p ≡ last n x ps) × (m ≡ last_index n i x ps)
 
-  none_of : (ps : List ℕ) (i : ℕ) → Later ps 0 → Is ps i none none
+  none_of : (ps : List ℕ) (i : ℕ) → Later ps 0 → Is ps i None None
   unfolding last last_index or_else pick
   none_of [] i h = (refl, refl)
   none_of (p ∷ ps) i h =
       let r = none_of ps (suc i) (λ j a b. h (suc j) (omega arith) (omega arith)) in
       (rw (← r.0, h 0 (omega arith) (omega arith)), rw (← r.1, h 0 (omega arith) (omega arith)))
 
-  last_of : (ps : List ℕ) (i k m : ℕ) → m ≡ i + k → k < length ps → eq_name (n (get_or ps k 0)) x ≡ true → Later ps (k + 1) → Is ps i (some (get_or ps k 0)) (some m)
+  last_of : (ps : List ℕ) (i k m : ℕ) → m ≡ i + k → k < length ps → eq_name (n (get_or ps k 0)) x ≡ true → Later ps (k + 1) → Is ps i (Some (get_or ps k 0)) (Some m)
   unfolding last last_index or_else pick
   last_of [] i k m z l e h = absurd (omega arith)
   last_of (p ∷ ps) i zero m z l e h =
@@ -94,7 +93,7 @@ module _ (img t : List ℕ) (base x : ℕ) where
           }
 
       pub hit : eq_name (name_in img (place_in (get_or t (base + 62 + (k - 1)) 0))) (name_at img x) ≡ true → (ps : List ℕ) → Listed img t base ps →
-          Named img x ps (found.At (k - 1) (place_in (get_or t (base + 62 + (k - 1)) 0)))
+          Named img x ps (Some (record { index = k - 1; place = place_in (get_or t (base + 62 + (k - 1)) 0) }))
       unfolding place_of index_of
       hit e ps l =
           let r = reached ps l in
@@ -102,7 +101,7 @@ module _ (img t : List ℕ) (base x : ℕ) where
           let f = last_of (name_in img) (name_at img x) ps 0 (k - 1) (k - 1) (omega arith) (omega (arith, r.within)) (rw (← p) e) (λ j a b. r.past j (omega arith) b) in
           record { place = rw p f.0; index = f.1 }
 
-  pub miss : (k : ℕ) → k ≡ 0 → Search k → (ps : List ℕ) → Listed img t base ps → Named img x ps found.Nothing
+  pub miss : (k : ℕ) → k ≡ 0 → Search k → (ps : List ℕ) → Listed img t base ps → Named img x ps None
   unfolding place_of index_of
   miss k z reached ps l =
       let r = none_of (name_in img) (name_at img x) ps 0 (λ j a b. (reached ps l).past j (omega arith) b) in

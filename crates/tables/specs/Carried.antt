@@ -5,9 +5,8 @@
 --     few     a List is read k records far
 -- Assumes nothing.
 use mathlib.Core.List.{List, [], ◌∷◌, map}
-use Rattle.std.specs.Prelude.{Bool, ◌≡◌, ℕ, zero, suc, ◌≤◌, ltb, length}
+use Rattle.std.specs.Prelude.{Bool, ◌≡◌, ℕ, zero, suc, ◌≤◌, ltb, length, None, Option, Some}
 use Rattle.std.proofs.Math.Bool.{true, false}
-use Rattle.std.proofs.Math.Option.{Option, none, some}
 use Rattle.std.proofs.Math.Path.{refl}
 use Rattle.std.proofs.Common.{◌∙◌, sym, arith}
 use Rattle.std.proofs.lemmas.List.{length-map}
@@ -19,27 +18,27 @@ use Rattle.tables.specs.declared.Found.{Found}
 use Rattle.tables.specs.Listed.{Named, place_of, index_of, functions_in, structs_in, storage_in}
 
 module _ {A : Type 0} (f : ℕ → A) (n : A → Name) (m : ℕ → Name) (same : (p : ℕ) → n (f p) ≡ m p) (x : Name) where
-  mapped_pick : (b : Bool) (p : ℕ) → mapped f (pick b (some p) none) ≡ pick b (some (f p)) none
+  mapped_pick : (b : Bool) (p : ℕ) → mapped f (pick b (Some p) None) ≡ pick b (Some (f p)) None
   unfolding mapped pick
   mapped_pick true p = refl
   mapped_pick false p = refl
 
   mapped_else : (a b : Option ℕ) → mapped f (or_else a b) ≡ or_else (mapped f a) (mapped f b)
   unfolding mapped or_else
-  mapped_else (some a) b = refl
-  mapped_else none b = refl
+  mapped_else (Some a) b = refl
+  mapped_else None b = refl
 
   last_map : (l : List ℕ) → mapped f (last m x l) ≡ last n x (map f l)
   unfolding last mapped
   last_map [] = refl
-  last_map (p ∷ l) = mapped_else (last m x l) (pick (eq_name (m p) x) (some p) none) ∙ rw (mapped_pick (eq_name (m p) x) p, last_map l, same p)
+  last_map (p ∷ l) = mapped_else (last m x l) (pick (eq_name (m p) x) (Some p) None) ∙ rw (mapped_pick (eq_name (m p) x) p, last_map l, same p)
 
   index_map : (i : ℕ) (l : List ℕ) → last_index m i x l ≡ last_index n i x (map f l)
   unfolding last_index
   index_map i [] = refl
   index_map i (p ∷ l) = rw (index_map (suc i) l, same p)
 
-module _ (img : List ℕ) (x : ℕ) (r : Found) where
+module _ (img : List ℕ) (x : ℕ) (r : Option Found) where
   pub function_is : Named img x (functions_in img) r → mapped (function_at img) (place_of r) ≡ last function_name (name_at img x) (contract_at img).functions
   unfolding contract_at function_at
   function_is h = rw h.place (last_map (function_at img) function_name (name_in img) (λ p. refl) (name_at img x) (functions_in img))

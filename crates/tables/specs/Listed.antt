@@ -8,15 +8,13 @@
 --     Tabled     the three lists of an image, whose places stand in cells
 --     Named      the last of the places ps whose record has the name at x, and its index
 -- Assumes nothing.
-use Rattle.std.specs.Prelude.{List, ◌≡◌, ℕ, ◌+◌, ◌-◌, ◌%◌, ◌≤◌, ◌<◌, length, get_or}
-use Rattle.std.proofs.Math.Option.{Option, none, some}
+use Rattle.std.specs.Prelude.{List, ◌≡◌, ℕ, ◌+◌, ◌-◌, ◌%◌, ◌≤◌, ◌<◌, length, get_or, None, Option, Some}
 use Rattle.rules.specs.Bytes.{name_at}
 use Rattle.rules.specs.Tables.{last, last_index}
 use Rattle.rules.specs.Read.{second, third, fourth, places_in, name_in}
 use Rattle.records.specs.Keys.{key_of}
 use Rattle.records.specs.Cells.{place_in, number_in}
 use Rattle.tables.specs.declared.Found.{Found}
-use Rattle.tables.specs.declared.Found.TheVariants as found
 
 abbrev pub functions_in : List ℕ → List ℕ
 functions_in img = places_in 256 img (fourth img 0)
@@ -57,14 +55,14 @@ pub record Tabled (img t : List ℕ) : Type 0 where
   pub structs : Listed img t 318 (structs_in img)
   pub storage : Listed img t 444 (storage_in img)
 
-unfoldable pub index_of : Found → Option ℕ
-index_of (found.At i p) = some i
-index_of found.Nothing = none
+unfoldable pub index_of : Option Found → Option ℕ
+index_of (Some f) = Some f.index
+index_of None = None
 
-unfoldable pub place_of : Found → Option ℕ
-place_of (found.At i p) = some p
-place_of found.Nothing = none
+unfoldable pub place_of : Option Found → Option ℕ
+place_of (Some f) = Some f.place
+place_of None = None
 
-pub record Named (img : List ℕ) (x : ℕ) (ps : List ℕ) (r : Found) : Type 0 where
+pub record Named (img : List ℕ) (x : ℕ) (ps : List ℕ) (r : Option Found) : Type 0 where
   pub place : place_of r ≡ last (name_in img) (name_at img x) ps
   pub index : index_of r ≡ last_index (name_in img) 0 (name_at img x) ps

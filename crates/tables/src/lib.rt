@@ -17,9 +17,9 @@ pub const SIZE: usize = 762;
 
 // The last record of a name: its index in its List and its place.
 #[derive(Clone, Copy)]
-pub enum Found {
-    At(usize, usize),
-    Nothing,
+pub struct Found {
+    pub index: usize,
+    pub place: usize,
 }
 
 // All buckets of the list at base are empty.
@@ -68,7 +68,7 @@ pub fn fill_tables(t: &mut [usize; SIZE], img: &[u8])
 }
 
 // The last record of the list at base whose name is the one at x, sought in its key's bucket.
-fn last_named(img: &[u8], t: &[usize], base: usize, x: usize) -> Found
+fn last_named(img: &[u8], t: &[usize], base: usize, x: usize) -> Option<Found>
     requires { (ps : List ℕ) × Listed img.now t.now base ps }
     ensures { (ps : List ℕ) → Listed img.now t.now base ps → Named img.now x ps result }
 {
@@ -79,15 +79,15 @@ fn last_named(img: &[u8], t: &[usize], base: usize, x: usize) -> Found
         let cell = t[base + 62 + k];
         let p = records::place_in(cell);
         if records::same_name(img, records::body(img, p), x) {
-            return Found::At(k, p);
+            return Some(Found { index: k, place: p });
         }
         k = records::number_in(cell);
     }
-    Found::Nothing
+    None
 }
 
 // The last function with the name at x (000: functions.get).
-pub fn function_named(img: &[u8], t: &[usize], x: usize) -> Found
+pub fn function_named(img: &[u8], t: &[usize], x: usize) -> Option<Found>
     requires { Tabled img.now t.now }
     ensures { Named img.now x (functions_in img.now) result }
 {
@@ -95,7 +95,7 @@ pub fn function_named(img: &[u8], t: &[usize], x: usize) -> Found
 }
 
 // The last struct with the name at x (001: structs.get).
-pub fn struct_named(img: &[u8], t: &[usize], x: usize) -> Found
+pub fn struct_named(img: &[u8], t: &[usize], x: usize) -> Option<Found>
     requires { Tabled img.now t.now }
     ensures { Named img.now x (structs_in img.now) result }
 {
@@ -103,7 +103,7 @@ pub fn struct_named(img: &[u8], t: &[usize], x: usize) -> Found
 }
 
 // The last storage field with the name at x (000: storage_map.get).
-pub fn storage_named(img: &[u8], t: &[usize], x: usize) -> Found
+pub fn storage_named(img: &[u8], t: &[usize], x: usize) -> Option<Found>
     requires { Tabled img.now t.now }
     ensures { Named img.now x (storage_in img.now) result }
 {

@@ -2,15 +2,14 @@
 --     tells_image, tells_ambiguous, tells_fine, tells_fault      what stands before generation
 --     generated_fine, generated_told      generation; what it refuses is told by its number and its place
 --     judged_room, generate_room      256 bytes are enough
---     told_generated, told_image, told_fault, told_ambiguous      what a stage tells, the program tells
+--     told_generated, told_refused, told_image, told_fault, told_ambiguous      what a stage tells, the program tells
 --     short_answer, whole_answer      the whole answer
 -- Assumes nothing.
 use Rattle.std.proofs.Math.Path.{◌≡◌, refl, ap, subst}
 use Rattle.std.proofs.Common.{sym, ◌∙◌, arith, lt-ltb, le-ltb}
-use Rattle.std.specs.Prelude.{List, ℕ, ◌≤◌, ◌<◌, length}
+use Rattle.std.specs.Prelude.{List, ℕ, ◌≤◌, ◌<◌, length, Ok, Err}
 use Rattle.rules.specs.declared.Answer.{Answer}
-use Rattle.rules.specs.declared.Seen.{Seen}
-use Rattle.rules.specs.declared.Seen.TheVariants.{Sound, Fault}
+use Rattle.rules.specs.Seen.{Seen, Sound, Fault}
 use Rattle.rules.specs.Bytes.{pick}
 use Rattle.rules.specs.Check.{check_of}
 use Rattle.rules.specs.Tree.{Contract}
@@ -24,10 +23,10 @@ use Rattle.bounds.specs.Texts.{Own, generated_as}
 use Rattle.bounds.proofs.Texts.{texts_fit, generated_own}
 use Rattle.emit.specs.Sinks.{Sinks}
 use Rattle.compiler.specs.Stages.{Makes, made, not_made}
-use Rattle.sema.specs.declared.front.Judged.{Judged}
-use Rattle.sema.specs.declared.front.Judged.TheVariants as is
+use Rattle.sema.specs.declared.front.Refused.{Refused}
+use Rattle.sema.specs.declared.front.Refused.TheVariants as is
 use Rattle.sema.specs.Entry.{Passed}
-use Rattle.sema.specs.Front.{judged_of}
+use Rattle.sema.specs.Front.{refused_of, Judged, judged_of}
 use Rattle.lookup.specs.Answers.{fault_of}
 use Rattle.lookup.specs.declared.Fault as code
 use Rattle.pieces.specs.Lays.{Lays}
@@ -42,26 +41,26 @@ tells_bad r {a} {b} {s} {t} {k} e h l = record {
 
 -- What stands before generation: rows 1 to 7, 30 and none have no text.
 module _ (img : List ℕ) {j : Judged} {s : List ℕ} where
-  pub tells_image : {n p : ℕ} {a : Answer} → j ≡ is.Image n p → a ≡ analysis_answer (judged_of img j) → Tells (judged_of img j) s s a
-  unfolding judged_of analysis_answer told_answer told_text text_of number_of place_of refused
+  pub tells_image : {n p : ℕ} {a : Answer} → j ≡ Err (is.Image n p) → a ≡ analysis_answer (judged_of img j) → Tells (judged_of img j) s s a
+  unfolding judged_of refused_of analysis_answer told_answer told_text text_of number_of place_of refused
   tells_image {n} {p} h e = rw h (record { answers = rw h at e; lies = refl })
 
-  pub tells_ambiguous : {p : ℕ} {a : Answer} → j ≡ is.Ambiguous p → a ≡ analysis_answer (judged_of img j) → Tells (judged_of img j) s s a
-  unfolding judged_of analysis_answer told_answer told_text text_of number_of place_of refused
+  pub tells_ambiguous : {p : ℕ} {a : Answer} → j ≡ Err (is.Ambiguous p) → a ≡ analysis_answer (judged_of img j) → Tells (judged_of img j) s s a
+  unfolding judged_of refused_of analysis_answer told_answer told_text text_of number_of place_of refused
   tells_ambiguous {p} h e = rw h (record { answers = rw h at e; lies = refl })
 
-  pub tells_fine : {a : Answer} → j ≡ is.Fine → a ≡ analysis_answer (judged_of img j) → Tells (judged_of img j) s s a
-  unfolding judged_of analysis_answer told_answer told_text
+  pub tells_fine : {a : Answer} → j ≡ Ok tt → a ≡ analysis_answer (judged_of img j) → Tells (judged_of img j) s s a
+  unfolding judged_of refused_of analysis_answer told_answer told_text
   tells_fine h e = rw h (record { answers = rw h at e; lies = refl })
 
   -- Analysis has one.
-  pub tells_fault : {f : code.Fault} {t : List ℕ} {a b : Answer} {k : ℕ} → j ≡ is.Analysis f → a ≡ analysis_answer (judged_of img j) → b ≡ answer a.refusal a.place k → Lays 0 (text_of (fault_of img f)) s t k
+  pub tells_fault : {f : code.Fault} {t : List ℕ} {a b : Answer} {k : ℕ} → j ≡ Err (is.Analysis f) → a ≡ analysis_answer (judged_of img j) → b ≡ answer a.refusal a.place k → Lays 0 (text_of (fault_of img f)) s t k
       → Tells (judged_of img j) s t b
-  unfolding judged_of analysis_answer
+  unfolding judged_of refused_of analysis_answer
   tells_fault {f} h e g l = rw h (tells_bad (fault_of img f) (rw h at e) g l)
 
-  pub fault_room : {f : code.Fault} → j ≡ is.Analysis f → Room (judged_of img j) s → length (text_of (fault_of img f)) ≤ length s
-  unfolding judged_of told_text
+  pub fault_room : {f : code.Fault} → j ≡ Err (is.Analysis f) → Room (judged_of img j) s → length (text_of (fault_of img f)) ≤ length s
+  unfolding judged_of refused_of told_text
   fault_room {f} h r = (rw h at r).enough
 
 -- Generation: no refusal, or the one that its number and its place tell.
@@ -99,7 +98,7 @@ tells_told {img} {s} {t} {a} {b} {m} h e l = subst (λ (x : Res Program). Tells 
 
 -- The program of an image, by what stands before generation.
 module _ (img : List ℕ) (j : Judged) (e : judged_of img j ≡ judged img) where
-  program_fine : j ≡ is.Fine → program rules img ≡ generate rules (contract_at img)
+  program_fine : j ≡ Ok tt → program rules img ≡ generate rules (contract_at img)
   unfolding program judged_of ◌>>=◌
   program_fine h = rw (sym e, h) refl
 
@@ -116,7 +115,7 @@ module _ (img : List ℕ) (j : Judged) (e : judged_of img j ≡ judged img) wher
       by (ok C) g = record { enough = omega (arith, h) }
       by (bad r) g = record { enough = omega (arith, h, said_of (texts_fit rules img) (program_bad r g)) }
 
-  pub generate_room : (s : List ℕ) → j ≡ is.Fine → 256 ≤ length s → Room (generate rules (contract_at img)) s
+  pub generate_room : (s : List ℕ) → j ≡ Ok tt → 256 ≤ length s → Room (generate rules (contract_at img)) s
   unfolding told_text
   generate_room s g h = by (generate rules (contract_at img)) refl
     where
@@ -125,7 +124,7 @@ module _ (img : List ℕ) (j : Judged) (e : judged_of img j ≡ judged img) wher
       by (bad r) z = record { enough = omega (arith, h, said_of (texts_fit rules img) (program_fine g ∙ z)) }
 
   -- What was told of the stage is told of the program.
-  pub told_generated : {s t : List ℕ} {a : Answer} → j ≡ is.Fine → Tells (generate rules (contract_at img)) s t a → Tells (program rules img) s t a
+  pub told_generated : {s t : List ℕ} {a : Answer} → j ≡ Ok tt → Tells (generate rules (contract_at img)) s t a → Tells (program rules img) s t a
   told_generated {s} {t} {a} h g = subst (λ (m : Res Program). Tells m s t a) (sym (program_fine h)) g
 
   told_bad : {s t : List ℕ} {a : Answer} (r : Refusal) → judged_of img j ≡ bad r → Tells (judged_of img j) s t a → Tells (program rules img) s t a
@@ -134,16 +133,20 @@ module _ (img : List ℕ) (j : Judged) (e : judged_of img j ≡ judged img) wher
       let x = subst (λ (m : Res Contract). Tells m s t a) h g in
       subst (λ (m : Res Program). Tells m s t a) (sym (program_bad r h)) (record { answers = x.answers; lies = x.lies })
 
-  pub told_image : {s t : List ℕ} {a : Answer} {n p : ℕ} → j ≡ is.Image n p → Tells (judged_of img j) s t a → Tells (program rules img) s t a
+  pub told_refused : {s t : List ℕ} {a : Answer} {r : Refused} → j ≡ Err r → Tells (judged_of img j) s t a → Tells (program rules img) s t a
   unfolding judged_of
+  told_refused {s} {t} {a} {r} h g = told_bad (refused_of img r) (rw h refl) g
+
+  pub told_image : {s t : List ℕ} {a : Answer} {n p : ℕ} → j ≡ Err (is.Image n p) → Tells (judged_of img j) s t a → Tells (program rules img) s t a
+  unfolding judged_of refused_of
   told_image {s} {t} {a} {n} {p} h g = told_bad (Refusal.fault n p) (rw h refl) g
 
-  pub told_fault : {s t : List ℕ} {a : Answer} {f : code.Fault} → j ≡ is.Analysis f → Tells (judged_of img j) s t a → Tells (program rules img) s t a
-  unfolding judged_of
+  pub told_fault : {s t : List ℕ} {a : Answer} {f : code.Fault} → j ≡ Err (is.Analysis f) → Tells (judged_of img j) s t a → Tells (program rules img) s t a
+  unfolding judged_of refused_of
   told_fault {s} {t} {a} {f} h g = told_bad (fault_of img f) (rw h refl) g
 
-  pub told_ambiguous : {s t : List ℕ} {a : Answer} {p : ℕ} → j ≡ is.Ambiguous p → Tells (judged_of img j) s t a → Tells (program rules img) s t a
-  unfolding judged_of
+  pub told_ambiguous : {s t : List ℕ} {a : Answer} {p : ℕ} → j ≡ Err (is.Ambiguous p) → Tells (judged_of img j) s t a → Tells (program rules img) s t a
+  unfolding judged_of refused_of
   told_ambiguous {s} {t} {a} {p} h g = told_bad (Refusal.ambiguous p) (rw h refl) g
 
 -- 02: 52 is tested first

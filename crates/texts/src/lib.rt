@@ -1,7 +1,7 @@
 // The texts of the Rust (02: P1), of any image and any slice.
 #![tactic(auto)]
 
-ghost use Rattle.std.specs.Prelude.{◌≡◌, ◌≤◌, length};
+ghost use Rattle.std.specs.Prelude.{◌≡◌, ◌≤◌, length, Err};
 ghost use Rattle.rules.specs.Build.{rules};
 ghost use Rattle.rules.specs.Link.{generate};
 ghost use Rattle.rules.specs.Read.{contract_at};
@@ -15,7 +15,7 @@ ghost use Rattle.texts.specs.Tells.{Tells, Room};
 use compiler::stages;
 use rules::Answer;
 use sema::front;
-use sema::front::Judged;
+use sema::front::Refused;
 
 // 02: count is the text's length
 fn told(a: Answer, count: usize) -> Answer
@@ -29,16 +29,15 @@ fn told(a: Answer, count: usize) -> Answer
 }
 
 // What comes before generation. Only analysis has a text.
-fn judged_text(out: &mut [u8], image: &[u8], j: Judged) -> Answer
-    requires { Room (judged_of image.now j) out.old }
-    ensures { Tells (judged_of image.now j) out.old out.new result }
+fn refused_text(out: &mut [u8], image: &[u8], refused: Refused) -> Answer
+    requires { Room (judged_of image.now (Err refused)) out.old }
+    ensures { Tells (judged_of image.now (Err refused)) out.old out.new result }
 {
-    let a = front::answer_of(j);
-    match j {
-        Judged::Analysis(f) => told(a, wording::fault(out, image, f)),
-        Judged::Image(_, _) => a,
-        Judged::Ambiguous(_) => a,
-        Judged::Fine => a,
+    let a = refused.answer();
+    match refused {
+        Refused::Analysis(fault) => told(a, wording::fault(out, image, fault)),
+        Refused::Image(_, _) => a,
+        Refused::Ambiguous(_) => a,
     }
 }
 
@@ -90,11 +89,8 @@ pub fn text(image: &[u8], out: &mut [u8]) -> Answer
     let mut tables = [0usize; tables::SIZE];
     let mut names = [0usize; records::NAMES];
     let mut notes = [0u8; notes::SIZE];
-    let j = front::judge(&mut tables, &mut names, &mut notes, image);
-    match j {
-        Judged::Fine => generated_text(out, &mut names, image, &tables, &notes),
-        Judged::Image(_, _) => judged_text(out, image, j),
-        Judged::Analysis(_) => judged_text(out, image, j),
-        Judged::Ambiguous(_) => judged_text(out, image, j),
+    match front::judge(&mut tables, &mut names, &mut notes, image) {
+        Ok(()) => generated_text(out, &mut names, image, &tables, &notes),
+        Err(refused) => refused_text(out, image, refused),
     }
 }

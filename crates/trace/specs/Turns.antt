@@ -3,10 +3,9 @@
 --     behind_own, behind_in       If: the jump; the block behind it
 --     loop_cond, loop_jnz, loop_jmp, loop_back, loop_in       While and For: the condition, the two jumps behind it, the jump back, the block
 -- Assumes nothing.
-use Rattle.std.specs.Prelude.{◌≡◌, refl}
+use Rattle.std.specs.Prelude.{◌≡◌, refl, Some}
 use Rattle.std.proofs.Common.{sym, ◌∙◌, subst, arith, length-append}
 use Rattle.std.proofs.Math.Path.{ap}
-use Rattle.std.proofs.Math.Option.{some}
 use mathlib.Core.List.{List, ◌∷◌}
 use Prim.Native.Nat.{ℕ, suc, ◌+◌, ◌-◌, ◌≤◌, ◌<◌}
 use Rattle.std.proofs.Math.ListN.{length}
@@ -101,11 +100,11 @@ module _ (p r : ℕ) (c b : List Open) where
   unfolding loops
   nth_cond i h = nth_first c _ i h
 
-  nth_jnz : nth (length c + 0) (loops p r c b) ≡ some (jump p op.Jnz r (Imm.pos 2))
+  nth_jnz : nth (length c + 0) (loops p r c b) ≡ Some (jump p op.Jnz r (Imm.pos 2))
   unfolding loops nth
   nth_jnz = nth_later c _ 0
 
-  nth_jmp : nth (length c + 1) (loops p r c b) ≡ some (jump p op.Jmp 0 (Imm.pos (length b + 2)))
+  nth_jmp : nth (length c + 1) (loops p r c b) ≡ Some (jump p op.Jmp 0 (Imm.pos (length b + 2)))
   unfolding loops nth
   nth_jmp = nth_later c _ 1
 
@@ -113,7 +112,7 @@ module _ (p r : ℕ) (c b : List Open) where
   unfolding loops nth
   nth_block k h = nth_later c _ (suc (suc k)) ∙ nth_first b _ k h
 
-  nth_back : nth (length c + suc (suc (length b + 0))) (loops p r c b) ≡ some back
+  nth_back : nth (length c + suc (suc (length b + 0))) (loops p r c b) ≡ Some back
   unfolding loops nth
   nth_back = nth_later c _ (suc (suc (length b + 0))) ∙ nth_later b _ 0
 
@@ -130,7 +129,7 @@ module _ {S : Type 0} (f : Open → S) {s v : Tally} {x : AtReg} {end want : ℕ
 
   -- one word of the loop itself
   loop_word : ((t : Out AtReg) (b : Out Here) (r : ℕ) → v.n ≡ s.n + length t.words → end ≡ v.n + 3 + length b.words → end < 4294967295
-      → (w : Open) → nth (want - s.n) (loops p r t.words b.words) ≡ some w → a ≡ f w) → Found f (looping p g body) s end want a
+      → (w : Open) → nth (want - s.n) (loops p r t.words b.words) ≡ Some w → a ≡ f w) → Found f (looping p g body) s end want a
   loop_word h = record {
     is = λ fine o e z low le w q.
         let t = turn p g body o e in

@@ -368,17 +368,14 @@ fn step_stmt(
     let first = records::body(img, at);
     let second = records::past(img, first);
     match records::kind(img, at) {
-        32 => seek::in_value(img, tables, notes, scope, rules, d, second, at, st, want),
-        33 => seek::in_value(img, tables, notes, scope, rules, d, first, at, st, want),
-        34 => seek::in_value(img, tables, notes, scope, rules, d, second, at, st, want),
-        35 => seek::in_value(img, tables, notes, scope, rules, d, second, at, st, want),
+        32 | 34 | 35 => seek::in_value(img, tables, notes, scope, rules, d, second, at, st, want),
+        33 | 42 => seek::in_value(img, tables, notes, scope, rules, d, first, at, st, want),
         36 => in_mapping(img, tables, notes, scope, rules, d, at, st, end, want),
         37 => in_if(scope, img, tables, notes, rules, d, at, st, end, want),
         38 => in_while(img, tables, notes, scope, rules, d, at, st, end, want),
         39 => in_for(scope, img, tables, notes, rules, d, at, st, end, want),
         40 => in_return(img, tables, notes, scope, rules, d, at, st, end, want),
         41 => in_emit(img, tables, notes, scope, rules, d, at, st, end, want),
-        42 => seek::in_value(img, tables, notes, scope, rules, d, first, at, st, want),
         _ => seek::own(at, st),
     }
 }

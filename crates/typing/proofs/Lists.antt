@@ -1,7 +1,7 @@
 -- Arguments and Inits, one at a time.
+use Rattle.std.specs.Prelude.{Option, None, Some}
 use mathlib.Core.Bool.{Bool, true, false}
 use mathlib.Core.List.{List, [], ◌∷◌}
-use mathlib.Core.Option.{Option, none, some}
 use mathlib.Core.Path.{◌≡◌, refl, sym, ◌∙◌}
 use Prim.Native.Nat.{ℕ, zero, suc, ◌+◌, ◌-◌, ◌<◌}
 use native.Mathlib.Omega.{arith}
@@ -36,11 +36,11 @@ pub drop_more : {A : Type 0} (i : ℕ) (l : List A) → drop 1 (drop i l) ≡ dr
 drop_more i l = rw (add-one) (drop_next i l)
 
 -- of two misfits the first
-first_of : (m : Option Misfit) (b : Bool) (i p : ℕ) (y : Option Misfit) → or_else m (pick b (some (record { index = i; place = p })) y) ≡ or_else (noted b i p m) y
+first_of : (m : Option Misfit) (b : Bool) (i p : ℕ) (y : Option Misfit) → or_else m (pick b (Some (record { index = i; place = p })) y) ≡ or_else (noted b i p m) y
 unfolding or_else pick noted
-first_of (some x) b i p y = refl
-first_of none true i p y = refl
-first_of none false i p y = refl
+first_of (Some x) b i p y = refl
+first_of None true i p y = refl
+first_of None false i p y = refl
 
 sums : {a b : ℕ} {x y : Option Misfit} → a ≡ b → x ≡ y → ◌≡◌ {A = Res Sum} (ok (sum a x)) (ok (sum b y))
 sums p q = rw (p, q)
@@ -51,12 +51,12 @@ unfolding ◌>>=◌ sum_up behind misfit
 one_more t (bad r) ps i p m = refl
 one_more t (ok vs) ps i p m = rw (add-one) (sums (omega arith) (first_of m (clashes (nth i ps) t) i p (misfit ps (suc i) vs)))
 
-or_none : (a : Option Misfit) → a ≡ or_else a none
+or_none : (a : Option Misfit) → a ≡ or_else a None
 unfolding or_else
-or_none (some a) = refl
-or_none none = refl
+or_none (Some a) = refl
+or_none None = refl
 
-behind_none : (o : Res Sum) → o ≡ (o >>= behind none)
+behind_none : (o : Res Sum) → o ≡ (o >>= behind None)
 unfolding ◌>>=◌ behind or_else
 behind_none (bad r) = refl
 behind_none (ok s) = refl
@@ -69,7 +69,7 @@ joined (bad r) f g = refl
 
 module _ (C : Contract) (d : ℕ) (img : List ℕ) (Γ : Env) where
   -- before the first argument
-  pub args_start : (ps : List Typ) (k p e : ℕ) → sum_args C ps 0 (exprs_from k (expr_at d img) img p e) Γ ≡ (sum_args C ps 0 (exprs_from (k - 0) (expr_at d img) img p e) Γ >>= behind none)
+  pub args_start : (ps : List Typ) (k p e : ℕ) → sum_args C ps 0 (exprs_from k (expr_at d img) img p e) Γ ≡ (sum_args C ps 0 (exprs_from (k - 0) (expr_at d img) img p e) Γ >>= behind None)
   args_start ps k p e = let z : k - 0 ≡ k = omega arith in rw z (behind_none _)
 
   module _ (ps : List Typ) (i : ℕ) (m : Option Misfit) where

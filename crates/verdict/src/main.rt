@@ -14,7 +14,7 @@ fn main(rt: HostRuntime) -> io::Result<()> {
     rt.stdin().take(65537).read_to_end(&mut image)?;
     let seen = image::check(&image);
     match seen {
-        Seen::Sound(_, _) => write(&rt, 0, 0),
-        Seen::Fault(number, place) => write(&rt, number, place),
+        Ok(_) => write(&rt, 0, 0),
+        Err((number, place)) => write(&rt, number, place),
     }
 }

@@ -4,11 +4,10 @@
 --     why_refused, why_past, why_word           the answer behind analysis; few_words, some_function: of what was generated
 --     whole_refused, whole_generated            the whole answer
 -- Assumes nothing.
-use Rattle.std.specs.Prelude.{◌≡◌, Bool, leb, ltb, take}
+use Rattle.std.specs.Prelude.{◌≡◌, Bool, leb, ltb, take, None, Option, Some}
 use Rattle.std.proofs.Math.Path.{refl, sym, ap}
 use Rattle.std.proofs.Common.{◌∙◌, subst, arith, get_or-take, lt-ltb, leb-true, leb-false}
 use Rattle.std.proofs.Math.Bool.{true, false}
-use Rattle.std.proofs.Math.Option.{Option, none, some}
 use mathlib.Core.List.{List, [], ◌∷◌, ◌++◌, map, reverse}
 use Prim.Native.Nat.{ℕ, zero, suc, ◌+◌, ◌-◌, ◌%◌, ◌≤◌, ◌<◌}
 use Rattle.std.proofs.Math.ListN.{length, get_or}
@@ -177,7 +176,7 @@ opened_plain {img} {R} {F} {n} {want} {a} l z g = record {
   spot = λ b m y low t w q. let k = marked_is (rules_of R) (contract_at img) b m in g ∙ go want l z w k.rest.code (ap (nth want) (sym k.code) ∙ q);
 }
   where
-    go : (i : ℕ) → i < 3 → (i ≡ 1 → ⊥) → (w : Open) (r : List Open) → nth i (opening (rules_of R) ++ r) ≡ some w → plain 0 ≡ told img want w
+    go : (i : ℕ) → i < 3 → (i ≡ 1 → ⊥) → (w : Open) (r : List Open) → nth i (opening (rules_of R) ++ r) ≡ Some w → plain 0 ≡ told img want w
     go zero l z w r q = ap (told img want) (some_same q)
     go (suc zero) l z w r q = absurd (z refl)
     go (suc (suc zero)) l z w r q = ap (told img want) (some_same q)
@@ -233,7 +232,7 @@ opened_in {img} {R} {F} {n} {want} {k} {count} {f} {first} {end} {a} low hc one 
 -- The word at an index, and none past the last.
 pub record WordAt (ws : List Open) (i : ℕ) : Type 0 where
   pub word : Open
-  pub is : nth i ws ≡ some word
+  pub is : nth i ws ≡ Some word
 
 nth_some : (ws : List Open) (i : ℕ) → i < length ws → WordAt ws i
 unfolding nth
@@ -241,7 +240,7 @@ nth_some [] i l = absurd (omega (arith, l))
 nth_some (o ∷ ws) zero l = record { word = o; is = refl }
 nth_some (o ∷ ws) (suc i) l = let w = nth_some ws i (omega (arith, l)) in record { word = w.word; is = w.is }
 
-nth_past : (ws : List Open) (i : ℕ) → length ws ≤ i → nth i ws ≡ none
+nth_past : (ws : List Open) (i : ℕ) → length ws ≤ i → nth i ws ≡ None
 unfolding nth
 nth_past [] i l = refl
 nth_past (o ∷ ws) zero l = absurd (omega (arith, l))
@@ -268,10 +267,10 @@ same_targets img F b e t x =
 -- A spot says what the definition says of its word.
 module _ (C : Contract) (T : List Entry) (F : List ℕ) (few : length C.functions ≤ 256)
     (same : (x : Name) → mapped (λ (e : Entry). e.first) (last (λ (e : Entry). e.name) x T) ≡ mapped (λ (k : ℕ). get_or F k 0) (last_index (λ (f : Function). f.name) 0 x C.functions)) where
-  called_at : (o : Option ℕ) → Opt (λ k. k < 0 + length C.functions) o → pick (ltb (or_first o) 256) (some (get_or F (or_first o) 0)) none ≡ mapped (λ (k : ℕ). get_or F k 0) o
+  called_at : (o : Option ℕ) → Opt (λ k. k < 0 + length C.functions) o → pick (ltb (or_first o) 256) (Some (get_or F (or_first o) 0)) None ≡ mapped (λ (k : ℕ). get_or F k 0) o
   unfolding pick or_first mapped
-  called_at none h = refl
-  called_at (some k) h = rw (lt-ltb k 256 (omega (arith, h, few))) refl
+  called_at None h = refl
+  called_at (Some k) h = rw (lt-ltb k 256 (omega (arith, h, few))) refl
 
   spot_why : (i : ℕ) (w : Open) → because 0 (spot_of C i w).place (target_in F (spot_of C i w)) ≡ because 0 (mark_of w) (target_of T i w)
   unfolding spot_of target_in pick mark_of target_of
@@ -302,7 +301,7 @@ module _ {img : List ℕ} {c c' : Sinks} {a : Answer} {F t : List ℕ} (h : Make
       (λ q m n y. e ∙ ap refusing n ∙ sym (ap (why_in index) m))
 
   -- 02: 53
-  pub why_past : (index : ℕ) {r : Why} → a.refusal ≡ 0 → a.count ≤ index → r ≡ because 53 0 none → r ≡ why_in index (marked rules (contract_at img))
+  pub why_past : (index : ℕ) {r : Why} → a.refusal ≡ 0 → a.count ≤ index → r ≡ because 53 0 None → r ≡ why_in index (marked rules (contract_at img))
   unfolding why_in word_why
   why_past index z l e = by_marks (λ b k. e ∙ sym (ap (why_in index) k.is ∙ ap (word_why b.table index) (nth_past b.code index (omega (arith, l, k.count)))))
       (λ q m n y. absurd (y z))

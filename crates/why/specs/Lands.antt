@@ -3,12 +3,12 @@
 --     marked_good  each word of `marked` is good
 --     lands        of each patched word, jump or call, index and offset come to its target
 -- Assumes nothing.
-use Rattle.std.specs.Prelude.{◌≡◌, refl, Bool, true, false, ℕ, zero, suc, ◌+◌, ◌-◌, ◌≤◌, leb}
-use Rattle.std.proofs.Math.Option.{Option, none, some, none-ne-some}
+use Rattle.std.proofs.lemmas.Option.{none-some}
+use Rattle.std.specs.Prelude.{◌≡◌, refl, Bool, true, false, ℕ, zero, suc, ◌+◌, ◌-◌, ◌≤◌, leb, None, Option, Some}
 use mathlib.Core.List.{List, [], ◌∷◌, ◌++◌, reverse}
 use Rattle.std.proofs.Common.{arith, leb-true, leb-false}
 use Rattle.std.proofs.Math.ListN.{length}
-use Rattle.rules.specs.declared.Seen.TheVariants.{Sound}
+use Rattle.rules.specs.Seen.{Sound}
 use Rattle.rules.specs.Bytes.{pick, Name}
 use Rattle.rules.specs.Check.{check_of}
 use Rattle.rules.specs.Read.{contract_at}
@@ -115,12 +115,12 @@ module _ (img : List ℕ) where
 
     apply_good : (p : ℕ) (f : Name) (n : ℕ) (m : Res Values) (b : Option Builtin) → p ≤ length img → Fine (λ (a : Values). a.code) m → Fine (λ (v : Value). v.code) (apply R C p f n m b)
     unfolding apply mark_of
-    apply_good p f n m (some Builtin.poseidon) k h = search steps depth 16
-    apply_good p f n m (some Builtin.sender) k h = search steps depth 16
-    apply_good p f n m (some Builtin.nonce) k h = search steps depth 16
-    apply_good p f n m (some Builtin.block-number) k h = search steps depth 16
-    apply_good p f n m (some Builtin.merkle) k h = search steps depth 16
-    apply_good p f n m none k h = then_values m _ h (λ a g. then_reg _ _ (λ d. all_ok _
+    apply_good p f n m (Some Builtin.poseidon) k h = search steps depth 16
+    apply_good p f n m (Some Builtin.sender) k h = search steps depth 16
+    apply_good p f n m (Some Builtin.nonce) k h = search steps depth 16
+    apply_good p f n m (Some Builtin.block-number) k h = search steps depth 16
+    apply_good p f n m (Some Builtin.merkle) k h = search steps depth 16
+    apply_good p f n m None k h = then_values m _ h (λ a g. then_reg _ _ (λ d. all_ok _
         (joined _ _ (each_map _ (push p) (count 1 (n - 1)) (λ x. (k, tt)))
         (joined a.code _ g (joined _ _ (each_map _ (λ (v : AtReg). push p v.reg) a.regs (λ x. (k, tt)))
         ((k, tt), ((k, tt), each_map _ (pop p) (reverse (count 1 (n - 1))) (λ x. (k, tt)))))))))
@@ -189,8 +189,8 @@ marked_good R img q m e = with (last (λ (f : Function). f.name) main (contract_
     (all_bind _ _ (functions_good img R (contract_at img) 3 (contract_at img).functions (all_whole img q m e)) (λ b h. all_ok _ ((omega arith, tt), ((omega arith, tt), ((omega arith, tt), h)))))
   where
     with : {P : Built → Type 0} {m : Res Built} (o : Option Function) → All P m → All P (with_main o m)
-    with none h = all_bad _
-    with (some f) h = h
+    with None h = all_bad _
+    with (Some f) h = h
 
 -- 000: patch_jump: a target less an own index leads there; so does an offset ahead, and a call's distance.
 less_lands : (i t : ℕ) → Lands i (less t i) t
@@ -201,33 +201,33 @@ less_lands i t = go (leb i t) refl
     go true e = omega (arith, leb-true i t e)
     go false e = omega (arith, leb-false i t e)
 
-onward_lands : (i t : ℕ) (d : Imm) → Onward d → some (landing i d) ≡ some t → Lands i d t
+onward_lands : (i t : ℕ) (d : Imm) → Onward d → Some (landing i d) ≡ Some t → Lands i d t
 unfolding landing
 onward_lands i t (Imm.pos d) h e = cc
 onward_lands i t (Imm.neg d) h e = absurd h
 
-call_lands : (i t : ℕ) (o : Option Entry) → mapped (λ (e : Entry). e.first) o ≡ some t → Lands i (distance o i) t
+call_lands : (i t : ℕ) (o : Option Entry) → mapped (λ (e : Entry). e.first) o ≡ Some t → Lands i (distance o i) t
 unfolding mapped distance
-call_lands i t none e = absurd (none-ne-some t e)
-call_lands i t (some x) e = let z : x.first ≡ t = cc in rw z (less_lands i t)
+call_lands i t None e = absurd (none-some t e)
+call_lands i t (Some x) e = let z : x.first ≡ t = cc in rw z (less_lands i t)
 
 -- Any of them.
-open_lands : (T : List Entry) (i : ℕ) (o : Open) (t : ℕ) → Ahead o → target_of T i o ≡ some t → Lands i (patch T i o).imm t
+open_lands : (T : List Entry) (i : ℕ) (o : Open) (t : ℕ) → Ahead o → target_of T i o ≡ Some t → Lands i (patch T i o).imm t
 unfolding target_of patch
 open_lands T i (word p true w) t h e = onward_lands i t w.imm h e
-open_lands T i (word p false w) t h e = absurd (none-ne-some t e)
+open_lands T i (word p false w) t h e = absurd (none-some t e)
 open_lands T i (calls p f) t h e = call_lands i t (last (λ (e : Entry). e.name) f T) e
 
 -- Of words that are linked from index j on, the one at index k.
 linked : (img : List ℕ) (T : List Entry) (k j i : ℕ) (l : List Open) (o : Open) (w : Word) → k ≡ j + i → Each (Good img) l
-    → nth i l ≡ some o → nth i (link T j l) ≡ some w → Good img o × (w ≡ patch T k o)
+    → nth i l ≡ Some o → nth i (link T j l) ≡ Some w → Good img o × (w ≡ patch T k o)
 unfolding nth link
-linked img T k j i [] o w a h e f = absurd (none-ne-some o e)
+linked img T k j i [] o w a h e f = absurd (none-some o e)
 linked img T k j zero (x ∷ l) o w a h e f = let y : x ≡ o = cc in let z : k ≡ j = omega arith in (rw y at h.0, cc)
 linked img T k j (suc i) (x ∷ l) o w a h e f = linked img T k (suc j) i l o w (omega arith) h.1 e f
 
-pub lands : (R : Rules) (img : List ℕ) (q m : ℕ) → check_of img ≡ Sound q m → (b : Built) → marked R (contract_at img) ≡ ok b → (i : ℕ) (o : Open) → nth i b.code ≡ some o
-    → (t : ℕ) → target_of b.table i o ≡ some t → (w : Word) → nth i (link b.table 0 b.code) ≡ some w → Lands i w.imm t
+pub lands : (R : Rules) (img : List ℕ) (q m : ℕ) → check_of img ≡ Sound q m → (b : Built) → marked R (contract_at img) ≡ ok b → (i : ℕ) (o : Open) → nth i b.code ≡ Some o
+    → (t : ℕ) → target_of b.table i o ≡ Some t → (w : Word) → nth i (link b.table 0 b.code) ≡ Some w → Lands i w.imm t
 lands R img q m c b a i o e t f w g =
     let (h, p) = linked img b.table i 0 i b.code o w (omega arith) (from_ok (rw a at (marked_good R img q m c))) e g in
     rw p (open_lands b.table i o t h.1 f)

@@ -3,10 +3,9 @@
 --     Part, part     the words of the function with index k among those of all
 --     targets        the first word of the last function of a name, by that function's index
 -- Assumes nothing.
-use Rattle.std.specs.Prelude.{◌≡◌, refl, Bool, true, false, get_or}
+use Rattle.std.specs.Prelude.{◌≡◌, refl, Bool, true, false, get_or, None, Option, Some}
 use Rattle.std.proofs.Common.{sym, ◌∙◌, subst, arith, length-append}
 use Rattle.std.proofs.Math.Path.{ap}
-use Rattle.std.proofs.Math.Option.{Option, none, some}
 use mathlib.Core.List.{List, [], ◌∷◌, ◌++◌, map}
 use Prim.Native.Nat.{ℕ, zero, suc, ◌+◌, ◌-◌, ◌≤◌, ◌<◌}
 use Rattle.std.proofs.Math.ListN.{length}
@@ -50,9 +49,9 @@ linked_marked R C = go (last (λ (f : Function). f.name) main C.functions) (func
   where
     go : (o : Option Function) (m : Res Built) → with_main {A = Program} o (m >>= λ b. ok (record { words = link b.table 0 (opening R ++ b.code); table = b.table }))
         ≡ (with_main {A = Built} o (m >>= λ b. ok (record { code = opening R ++ b.code; table = b.table })) >>= λ b. ok (record { words = link b.table 0 b.code; table = b.table }))
-    go none m = refl
-    go (some f) (ok b) = refl
-    go (some f) (bad q) = refl
+    go None m = refl
+    go (Some f) (ok b) = refl
+    go (Some f) (bad q) = refl
 
 -- The functions' words behind the opening.
 pub record Marked (R : Rules) (C : Contract) (b : Built) : Type 0 where
@@ -66,8 +65,8 @@ unfolding marked with_main
 marked_is R C b e = go (last (λ (f : Function). f.name) main C.functions) e
   where
     go : (o : Option Function) → with_main o (functions R C 3 C.functions >>= λ r. ok (record { code = opening R ++ r.code; table = r.table })) ≡ ok b → Marked R C b
-    go none e = absurd (subst IsOk (sym e) tt)
-    go (some f) e =
+    go None e = absurd (subst IsOk (sym e) tt)
+    go (Some f) e =
         let t = twice (functions R C 3 C.functions) _ b e in
         record { rest = t.one; is = t.first; code = ap (λ (x : Built). x.code) (sym (ok_same t.second)); table = ap (λ (x : Built). x.table) (sym (ok_same t.second)) }
 
@@ -164,22 +163,22 @@ module _ (R : Rules) (C : Contract) (img : List ℕ) where
 -- 000: func_offsets.get, by the function's index
 targets_else : {A : Type 0} (f : Entry → A) (g : ℕ → A) (a b : Option Entry) (c d : Option ℕ) → mapped f a ≡ mapped g c → mapped f b ≡ mapped g d → mapped f (or_else a b) ≡ mapped g (or_else c d)
 unfolding mapped or_else
-targets_else f g none b none d e h = h
-targets_else f g none b (some c) d e h = absurd (subst is_none e tt)
+targets_else f g None b None d e h = h
+targets_else f g None b (Some c) d e h = absurd (subst is_none e tt)
   where
     is_none : {A : Type 0} → Option A → Type 0
-    is_none none = Unit {0}
-    is_none (some a) = ⊥
-targets_else f g (some a) b none d e h = absurd (subst is_none (sym e) tt)
+    is_none None = Unit {0}
+    is_none (Some a) = ⊥
+targets_else f g (Some a) b None d e h = absurd (subst is_none (sym e) tt)
   where
     is_none : {A : Type 0} → Option A → Type 0
-    is_none none = Unit {0}
-    is_none (some a) = ⊥
-targets_else f g (some a) b (some c) d e h = e
+    is_none None = Unit {0}
+    is_none (Some a) = ⊥
+targets_else f g (Some a) b (Some c) d e h = e
 
-targets_pick : (t : Bool) (e : Entry) (F : List ℕ) (k : ℕ) → get_or F k 0 ≡ e.first → mapped (λ (x : Entry). x.first) (pick t (some e) none) ≡ mapped (λ (i : ℕ). get_or F i 0) (pick t (some k) none)
+targets_pick : (t : Bool) (e : Entry) (F : List ℕ) (k : ℕ) → get_or F k 0 ≡ e.first → mapped (λ (x : Entry). x.first) (pick t (Some e) None) ≡ mapped (λ (i : ℕ). get_or F i 0) (pick t (Some k) None)
 unfolding mapped pick
-targets_pick true e F k h = ap some (sym h)
+targets_pick true e F k h = ap Some (sym h)
 targets_pick false e F k h = refl
 
 pub targets : (R : Rules) (C : Contract) (x : Name) (F : List ℕ) (i j : ℕ) (fs : List Function) (b : Built) → functions R C i fs ≡ ok b → ((k : ℕ) → k < length fs → get_or F (j + k) 0 ≡ get_or (firsts_of b.table) k 0)

@@ -1,12 +1,11 @@
 -- The answer of `why` is small enough for a number of 64 bits (02: P5), of any image and any index: an instance of `marked_good`.
 -- Assumes nothing.
-use Rattle.std.specs.Prelude.{◌≡◌, refl, true, false, length}
-use Rattle.std.proofs.Math.Option.{Option, none, some}
+use Rattle.std.specs.Prelude.{◌≡◌, refl, true, false, length, None, Option, Some}
 use mathlib.Core.List.{List, [], ◌∷◌, ◌++◌}
 use Prim.Native.Nat.{ℕ, zero, suc, ◌+◌, ◌≤◌, ◌<◌}
 use Rattle.std.proofs.Common.{arith}
 use Rattle.rules.specs.declared.Why.{Why}
-use Rattle.rules.specs.declared.Seen.TheVariants.{Sound}
+use Rattle.rules.specs.Seen.{Sound}
 use Rattle.rules.specs.Check.{check_of}
 use Rattle.rules.specs.Tables.{last, mapped, nth}
 use Rattle.rules.specs.Tree.{Function, Contract}
@@ -52,8 +51,8 @@ landing_low i (Imm.neg d) h g = omega arith
 
 first_low : (o : Option Entry) → Opt (λ (e : Entry). e.first ≤ 709933) o → Low (mapped (λ (e : Entry). e.first) o)
 unfolding mapped
-first_low none h = tt
-first_low (some e) h = omega arith
+first_low None h = tt
+first_low (Some e) h = omega arith
 
 target_low : (T : List Entry) (i : ℕ) (o : Open) → Firsts T → i < 709933 → WordOf o → Low (target_of T i o)
 unfolding target_of
@@ -64,21 +63,21 @@ target_low T i (calls p x) f h g = first_low _ (each_last _ _ x T f)
 -- An answer.
 few : (r p : ℕ) (o : Option ℕ) → r < 256 → p ≤ 65536 → Low o → Few (because r p o)
 unfolding because
-few r p none h g f = record { refusal = h; place = g; target = omega arith }
-few r p (some t) h g f = record { refusal = h; place = g; target = f }
+few r p None h g f = record { refusal = h; place = g; target = omega arith }
+few r p (Some t) h g f = record { refusal = h; place = g; target = f }
 
 module _ (img : List ℕ) (i : ℕ) where
   -- Of the word at index i, the kth of those that are left.
   word_few : (T : List Entry) (k : ℕ) (l : List Open) → length img ≤ 65536 → Firsts T → i + length l ≤ 709933 + k → Each (Good img) l → Ranged l → Few (word_why T i (nth k l))
   unfolding word_why nth
-  word_few T k [] b f n h g = few 53 0 none (omega arith) (omega arith) tt
+  word_few T k [] b f n h g = few 53 0 None (omega arith) (omega arith) tt
   word_few T zero (o ∷ l) b f n h g = few 0 (mark_of o) _ (omega arith) (omega (arith, h.0.0)) (target_low T i o f (omega arith) g.0)
   word_few T (suc k) (o ∷ l) b f n h g = word_few T k l b f (omega arith) h.1 g.1
 
   -- Of a refusal.
   refused_few : (q : Refusal) → Plain q → Few (why_in i (bad q))
   unfolding why_in
-  refused_few q h = few _ _ none h.few h.near tt
+  refused_few q h = few _ _ None h.few h.near tt
 
   -- Generation refuses alike, whether its words are marked or linked.
   marked_few : (q m : ℕ) → check_of img ≡ Sound q m → Few (why_in i (marked rules (contract_at img)))
@@ -90,9 +89,9 @@ module _ (img : List ℕ) (i : ℕ) where
 
       go : (o : Option Function) (n : Res Built) (f : Built → Program) → Said Plain (Any Program) (with_main o (n >>= λ b. ok (f b))) → All (λ (b : Built). Short 3 b) n
           → All (λ (b : Built). Each (Good img) b.code) (with_main o (n >>= opened)) → Few (why_in i (with_main o (n >>= opened)))
-      go none n f s h g = refused_few _ (said_of s refl)
-      go (some x) (bad r) f s h g = refused_few r (said_of s refl)
-      go (some x) (ok b) f s h g =
+      go None n f s h g = refused_few _ (said_of s refl)
+      go (Some x) (bad r) f s h g = refused_few r (said_of s refl)
+      go (Some x) (ok b) f s h g =
           let k = from_ok h in
           word_few b.table i _ (uncut img q m e).bytes k.firsts (omega (arith, k.few)) (from_ok g) (omega arith, (tt, (omega arith, k.ranged)))
 

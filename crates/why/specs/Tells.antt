@@ -5,8 +5,7 @@
 --     Lies          the function that a word lies in, by the first words F
 --     Opened        the spot of a word of the program
 -- Assumes nothing.
-use Rattle.std.specs.Prelude.{◌≡◌, false, List, ℕ, ◌+◌, ◌≤◌, ◌<◌, eqb, ltb, length, get_or, take}
-use Rattle.std.proofs.Math.Option.{Option, none, some}
+use Rattle.std.specs.Prelude.{◌≡◌, false, List, ℕ, ◌+◌, ◌≤◌, ◌<◌, eqb, ltb, length, get_or, take, None, Option, Some}
 use Rattle.rules.specs.declared.Answer.{Answer}
 use Rattle.rules.specs.declared.Why.{Why}
 use Rattle.rules.specs.Bytes.{pick}
@@ -32,7 +31,7 @@ refusing a = record { refusal = a.refusal; place = a.place; patched = false; tar
 
 -- A jump leads where it says, a call to its function's first word.
 unfoldable pub target_in : List ℕ → Spot → Option ℕ
-target_in F s = pick (eqb s.way 1) (some s.to) (pick (eqb s.way 2) (pick (ltb s.to 256) (some (get_or F s.to 0)) none) none)
+target_in F s = pick (eqb s.way 1) (Some s.to) (pick (eqb s.way 2) (pick (ltb s.to 256) (Some (get_or F s.to 0)) None) None)
 
 -- The state before a function's first word.
 abbrev pub start : ℕ → Tally
@@ -56,4 +55,4 @@ pub record Located (img t N s : List ℕ) : Type 0 where
 -- in_program: of a program of n words whose functions start at F
 pub record Opened (img : List ℕ) (R : Rules) (F : List ℕ) (n want : ℕ) (a : Spot) : Type 0 where
   pub spot : (b : Built) → marked (rules_of R) (contract_at img) ≡ ok b → n ≡ length b.code → n < 4294967295 → take (length b.table) F ≡ firsts_of b.table
-      → (w : Open) → nth want b.code ≡ some w → a ≡ told img want w
+      → (w : Open) → nth want b.code ≡ Some w → a ≡ told img want w

@@ -252,9 +252,8 @@ pub fn why(image: &[u8], index: u64) -> Why
     let mut tables = [0usize; tables::SIZE];
     let mut names = [0usize; records::NAMES];
     let mut notes = [0u8; notes::SIZE];
-    let j = front::answer_of(front::judge(&mut tables, &mut names, &mut notes, image));
-    if j.refusal != 0 {
-        return refused(j);
+    if let Err(judged) = front::judge(&mut tables, &mut names, &mut notes, image) {
+        return refused(judged.answer());
     }
     generated(&mut names, image, &tables, &notes, index)
 }

@@ -2,13 +2,13 @@
 // and offsets, a line each; and how many of the 256 low bytes are opcodes.
 #![tactic(auto)]
 
-use isa::{Decoded, Encoded, Fields, Height, Instruction, Op, Opcode};
+use isa::{Height, Instruction, Opcode};
 use std::io;
 
-fn show(rt: &impl Print, answer: Encoded) -> io::Result<()> {
+fn show(rt: &impl Print, answer: Option<u64>) -> io::Result<()> {
     match answer {
-        Encoded::Word(w) => println!(rt; "{w:016x}"),
-        Encoded::NoWord => println!(rt; "no word"),
+        Some(w) => println!(rt; "{w:016x}"),
+        None => println!(rt; "no word"),
     }
 }
 
@@ -16,7 +16,7 @@ fn show(rt: &impl Print, answer: Encoded) -> io::Result<()> {
 fn again(rt: &impl Print, facts: &[u8; 256], w: u64) -> io::Result<()> {
     print!(rt; "{w:016x} ")?;
     match Instruction::decode(facts, w) {
-        Decoded::Read(i, top) => {
+        Some((i, top)) => {
             let o = i.opcode;
             let number = o.number();
             let rd = i.rd;
@@ -26,22 +26,22 @@ fn again(rt: &impl Print, facts: &[u8; 256], w: u64) -> io::Result<()> {
             print!(rt; "{number} {rd} {rs1} {rs2} {imm} {top} ")?;
             show(rt, i.encode(top))
         }
-        Decoded::Refused => println!(rt; "refused"),
+        None => println!(rt; "refused"),
     }
 }
 
 // The fields without the top bits, written again.
-fn cleared(facts: &[u8; 256], w: u64) -> Encoded {
+fn cleared(facts: &[u8; 256], w: u64) -> Option<u64> {
     match Instruction::decode_any(facts, w) {
-        Fields::Known(i) => i.encode(0),
-        Fields::Unknown => Encoded::NoWord,
+        Some(i) => i.encode(0),
+        None => None,
     }
 }
 
 // The word of an opcode's number with three registers and top bits.
-fn with(facts: &[u8; 256], n: u8, rd: u8, rs1: u8, rs2: u8, top: u16) -> Encoded {
+fn with(facts: &[u8; 256], n: u8, rd: u8, rs1: u8, rs2: u8, top: u16) -> Option<u64> {
     match Opcode::of(facts, n) {
-        Op::Known(o) => {
+        Some(o) => {
             let i = Instruction {
                 opcode: o,
                 rd,
@@ -51,7 +51,7 @@ fn with(facts: &[u8; 256], n: u8, rd: u8, rs1: u8, rs2: u8, top: u16) -> Encoded
             };
             i.encode(top)
         }
-        Op::Unknown => Encoded::NoWord,
+        None => None,
     }
 }
 

@@ -1,18 +1,15 @@
 -- first_ambiguous meets its contract.
 use mathlib.Core.Path.{◌∙◌, sym}
 use Rattle.ambiguous.proofs.Walk.{no_ambiguous}
-use Rattle.ambiguous.specs.Spots.{spot_of}
 use Rattle.rules.specs.Read.{contract_at}
 use borrow.Author.Tests.{eqb-true}
 use Rattle.ambiguous.proofs.first_ambiguous.Goals as goal
 
 pub returns-then-all_noted : goal.returns-then-all_noted
-unfolding spot_of
 returns-then-all_noted c = sym (c.requires.1.clear (eqb-true _ _ (sym c.all_noted.ensures ∙ c.if-all_noted.true)))
 
 pub all_agree-requires : goal.all_agree-requires
 all_agree-requires c = c.requires.0
 
 pub returns-then-all_agree : goal.returns-then-all_agree
-unfolding spot_of
 returns-then-all_agree c = no_ambiguous (contract_at c.args.img.now) (c.all_agree.ensures c.if-all_agree.true)

@@ -1,7 +1,6 @@
 -- in_simple meets its contract.
 use native.Mathlib.Omega.{arith}
 use Rattle.ambiguous.proofs.Trees.{kind_rest}
-use Rattle.ambiguous.specs.Spots.{spot_of}
 use Rattle.rules.specs.Ambiguous.{in_stmt_lem}
 use Rattle.rules.specs.Bytes.{pick}
 use Rattle.rules.specs.Read.{stmt_as, stmt_kind_of}
@@ -40,5 +39,5 @@ unfolding in_stmt_lem stmt_as stmt_kind_of pick
 returns-in-42 c = rw c.in-42.is (rw c.body-first.ensures.0 at c.in_expr-in-42.ensures)
 
 pub returns-in_default : goal.returns-in_default
-unfolding in_stmt_lem stmt_as spot_of
+unfolding in_stmt_lem stmt_as
 returns-in_default c = rw (kind_rest c.args.k (omega arith) (omega arith) (omega arith) (omega arith) (omega arith) c.requires.1.0 c.requires.1.1.0 c.requires.1.1.1 (omega arith) (omega arith) (omega arith))

@@ -4,10 +4,10 @@ use Rattle.bench.specs.Small.{sound, faulty, small_check}
 use Rattle.bench.proofs.hasp_check.Goals as goal
 
 pub pack-requires : goal.pack-requires
-pack-requires c = small_check _ _ _ (sym c.check.ensures ∙ c.in-Fault.is)
+pack-requires c = small_check _ _ _ (sym c.check.ensures ∙ c.in-Err.is)
 
-pub returns-in-Sound : goal.returns-in-Sound
-returns-in-Sound c = sound _ _ _ (sym c.check.ensures ∙ c.in-Sound.is)
+pub returns-in-Ok : goal.returns-in-Ok
+returns-in-Ok c = sound _ _ _ (sym c.check.ensures ∙ c.in-Ok.is)
 
-pub returns-in-Fault : goal.returns-in-Fault
-returns-in-Fault c = c.pack.ensures ∙ faulty _ _ _ (sym c.check.ensures ∙ c.in-Fault.is)
+pub returns-in-Err : goal.returns-in-Err
+returns-in-Err c = c.pack.ensures ∙ faulty _ _ _ (sym c.check.ensures ∙ c.in-Err.is)

@@ -3,9 +3,9 @@ use Rattle.expr.proofs.Asked.{has_slot, no_slot}
 use Rattle.expr.proofs.storage_slot.Goals as goal
 
 -- src/lib.rt:43:1
-pub returns-in-At : goal.returns-in-At
-returns-in-At c = has_slot _ _ _ _ _ _ _ _ c.storage_named.ensures c.in-At.is
+pub returns-in-Some : goal.returns-in-Some
+returns-in-Some c = has_slot _ _ _ _ _ _ _ c.storage_named.ensures c.in-Some.is
 
 -- src/lib.rt:43:1
-pub returns-in-Nothing : goal.returns-in-Nothing
-returns-in-Nothing c = no_slot _ _ _ _ _ _ _ c.storage_named.ensures c.in-Nothing.is c.fail.ensures
+pub returns-in-None : goal.returns-in-None
+returns-in-None c = no_slot _ _ _ _ _ _ _ c.storage_named.ensures c.in-None.is c.fail.ensures

@@ -1,32 +1,31 @@
 -- field_offset meets its contract.
 use Rattle.fields.proofs.Positions.{offset_at, offset_none}
 use Rattle.fields.specs.Steps.{all, past_all}
-use Rattle.fields.specs.Spots.{spot_of, searched}
+use Rattle.fields.specs.Spots.{searched}
 use Rattle.rules.specs.Layout.{with_position, first_of}
 use Rattle.rules.specs.Read.{contract_at}
-use mathlib.Core.Path.{ap, ◌∙◌}
+use mathlib.Core.Path.{refl, ap, ◌∙◌}
 use native.Mathlib.Omega.{arith}
 use Rattle.fields.proofs.field_offset.Goals as goal
 
 pub loop-i-init : goal.loop-i-init
 loop-i-init c = (omega arith, ap first_of (all c.args.img.now _))
 
-pub position_at-here-requires : goal.position_at-here-requires
-position_at-here-requires c = (c.requires, rw (c.struct_count-n.ensures c.args.img.now c.requires) at c.loop-i-test.true)
+pub position_at-requires : goal.position_at-requires
+position_at-requires c = (c.requires, rw (c.struct_count-n.ensures c.args.img.now c.requires) at c.loop-i-test.true)
 
 pub overflow_mul-result : goal.overflow_mul-result
-overflow_mul-result c = omega (arith, c.position_at-here.ensures.below _ c.in-At.is)
+overflow_mul-result c = omega (arith, c.in-Some.ensures.below _ refl)
 
-pub returns-in-At : goal.returns-in-At
-unfolding spot_of
-returns-in-At c = offset_at c.args.img.now _ _ _ (c.loop-i.invariant.1 ∙ ap first_of (rw c.in-At.is at c.position_at-here.ensures.is)) ∙ ap (searched (contract_at c.args.img.now)) c.name-name.ensures
+pub returns-in-Some : goal.returns-in-Some
+returns-in-Some c = offset_at c.args.img.now _ _ _ (c.loop-i.invariant.1 ∙ ap first_of c.in-Some.ensures.is) ∙ ap (searched (contract_at c.args.img.now)) c.name-name.ensures
 
 pub loop-i-smaller : goal.loop-i-smaller
 loop-i-smaller c = omega (arith, c.loop-i-test.true)
 
 pub loop-i-preserved : goal.loop-i-preserved
-unfolding spot_of with_position
-loop-i-preserved c = (omega arith, c.loop-i.invariant.1 ∙ ap first_of (rw c.in-Nowhere.is at c.position_at-here.ensures.is))
+unfolding with_position
+loop-i-preserved c = (omega arith, c.loop-i.invariant.1 ∙ ap first_of (rw c.in_default.is at c.position_at.ensures.is))
 
 pub returns : goal.returns
 returns c = offset_none c.args.img.now _ _ (past_all c.args.img.now _ c.loop-i.i (rw (c.struct_count-n.ensures c.args.img.now c.requires) at c.loop-i-test.false)) c.loop-i.invariant.1 ∙ ap (searched (contract_at c.args.img.now)) c.name-name.ensures

@@ -1,4 +1,5 @@
 -- apply_to meets its contract.
+use mathlib.Core.Logic.{inl, inr}
 use Rattle.lookup.specs.Answers.{fault_of, ret_of, sig_at, typed_of}
 use Rattle.rules.specs.Analyse.{applied, params_of}
 use Rattle.lookup.proofs.apply_to.Goals as goal
@@ -9,8 +10,4 @@ returns-in-Undefined c = rw c.in-Undefined.is
 
 pub returns-in-Builtin : goal.returns-in-Builtin
 unfolding sig_at applied params_of ret_of
-returns-in-Builtin c = rw c.in-Builtin.is (rw c.in-Builtin.is at c.fit_call.ensures)
-
-pub returns-in-User : goal.returns-in-User
-unfolding sig_at applied params_of ret_of
-returns-in-User c = rw c.in-User.is (rw c.in-User.is at c.fit_call-in-User.ensures)
+returns-in-Builtin c = elim c.in-Builtin.is [ inl e ↦ rw e.1 (rw e.1 at c.fit_call.ensures) | inr e ↦ rw e.1 (rw e.1 at c.fit_call.ensures) ]

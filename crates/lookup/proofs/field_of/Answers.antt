@@ -1,5 +1,6 @@
 -- field_of meets its contract.
 use mathlib.Core.Path.{◌∙◌}
+use mathlib.Core.Logic.{inl, inr}
 use Rattle.rules.specs.Analyse.{access}
 use Rattle.rules.specs.Layout.{declared}
 use Rattle.before.specs.Meant.{bad_ok}
@@ -17,16 +18,9 @@ returns-in-Unknown c = record { types = rw c.in-Unknown.is; notes = λ u h. c.le
 
 pub returns-in-U64 : goal.returns-in-U64
 unfolding access ty_of typed_of fault_of
-returns-in-U64 c = record { types = rw c.in-U64.is; notes = λ u h. bad_ok _ u h }
-
-pub returns-in-Bool : goal.returns-in-Bool
-unfolding access ty_of typed_of fault_of
-returns-in-Bool c = record { types = rw c.in-Bool.is; notes = λ u h. bad_ok _ u h }
-
-pub returns-in-Field : goal.returns-in-Field
-unfolding access ty_of typed_of fault_of
-returns-in-Field c = record { types = rw c.in-Field.is; notes = λ u h. bad_ok _ u h }
-
-pub returns-in-Void : goal.returns-in-Void
-unfolding access ty_of typed_of fault_of
-returns-in-Void c = record { types = rw c.in-Void.is; notes = λ u h. bad_ok _ u h }
+returns-in-U64 c = elim c.in-U64.is [
+  | inl e ↦ record { types = rw e; notes = λ u h. bad_ok _ u h }
+  | inr (inl e) ↦ record { types = rw e; notes = λ u h. bad_ok _ u h }
+  | inr (inr (inl e)) ↦ record { types = rw e; notes = λ u h. bad_ok _ u h }
+  | inr (inr (inr e)) ↦ record { types = rw e; notes = λ u h. bad_ok _ u h }
+]

@@ -1,5 +1,5 @@
 -- find_local meets its contract.
-use mathlib.Core.Option.{some}
+use Rattle.std.specs.Prelude.{Some}
 use mathlib.Core.Path.{◌∙◌, ap, refl, sym}
 use native.Mathlib.Omega.{arith}
 use Rattle.rules.specs.Bytes.{name_at}
@@ -15,7 +15,7 @@ overflow_add-k c = omega arith
 
 pub returns-then-same_name : goal.returns-then-same_name
 unfolding got_of
-returns-then-same_name c = ap some (rw (c.number_in-n.ensures, c.cell-c.ensures) at (c.type_of.ensures c.args.img.now)) ∙ sym (c.loop-k.invariant.1 ∙ find_hit c.args.img.now c.args.env.now (name_at c.args.img.now c.args.x) c.loop-k.k c.loop-k-test.true (sym c.cell.ensures ∙ c.if-cell-key.true ∙ c.name_key-key.ensures) (sym (rw (c.place_in.ensures, c.cell-c.ensures) at c.same_name.ensures) ∙ c.if-same_name.true))
+returns-then-same_name c = ap Some (rw (c.number_in-n.ensures, c.cell-c.ensures) at (c.type_of.ensures c.args.img.now)) ∙ sym (c.loop-k.invariant.1 ∙ find_hit c.args.img.now c.args.env.now (name_at c.args.img.now c.args.x) c.loop-k.k c.loop-k-test.true (sym c.cell.ensures ∙ c.if-cell-key.true ∙ c.name_key-key.ensures) (sym (rw (c.place_in.ensures, c.cell-c.ensures) at c.same_name.ensures) ∙ c.if-same_name.true))
 
 pub loop-k-preserved-else-same_name : goal.loop-k-preserved-else-same_name
 loop-k-preserved-else-same_name c = (omega arith, c.loop-k.invariant.1 ∙ find_miss c.args.img.now c.args.env.now (name_at c.args.img.now c.args.x) c.loop-k.k c.loop-k-test.true (sym (rw (c.place_in.ensures, c.cell-c.ensures) at c.same_name.ensures) ∙ c.if-same_name.false))

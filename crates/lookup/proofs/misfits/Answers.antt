@@ -4,10 +4,10 @@ use Rattle.lookup.specs.Answers.{got_of}
 use mathlib.Core.Path.{◌∙◌, ap, sym}
 use Rattle.lookup.proofs.misfits.Goals as goal
 
-pub returns-in-Type : goal.returns-in-Type
+pub returns-in-Some : goal.returns-in-Some
 unfolding got_of
-returns-in-Type c = clash_at _ (sym (ap (got_of c.args.img.now) c.in-Type.is) ∙ c.first_due-g.ensures) c.clashing.ensures
+returns-in-Some c = clash_at _ (sym (ap (got_of c.args.img.now) c.in-Some.is) ∙ c.first_due.ensures) c.clashing.ensures
 
-pub returns-in-Missing : goal.returns-in-Missing
+pub returns-in-None : goal.returns-in-None
 unfolding got_of
-returns-in-Missing c = clash_past _ (sym (ap (got_of c.args.img.now) c.in-Missing.is) ∙ c.first_due-g.ensures)
+returns-in-None c = clash_past _ (sym (ap (got_of c.args.img.now) c.in-None.is) ∙ c.first_due.ensures)

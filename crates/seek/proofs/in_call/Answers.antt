@@ -1,29 +1,38 @@
 -- `in_call` meets its contract.
-use mathlib.Core.Path.{sym, ap, ◌∙◌}
+use mathlib.Core.Path.{◌≡◌, refl, ap}
+use native.Mathlib.Omega.{arith}
+use denote.Enum.Declared.{tag_of}
+use Rattle.expr.specs.contracts.names.Builtin.{the_type}
+use Rattle.expr.specs.declared.names.Builtin.{Builtin}
+use Rattle.expr.specs.declared.names.Builtin.TheVariants as builtin
 use Rattle.expr.specs.Names.{builtin_of}
+use Rattle.rules.specs.Read.{kCall}
+use Rattle.seek.specs.Spots.{Leads}
 use Rattle.seek.specs.Parts.{call_in, poseidon_in, merkle_in, sender_own, nonce_own, number_own}
 use Rattle.seek.proofs.in_call.Goals as goal
 
-pub returns-in-Poseidon : goal.returns-in-Poseidon
+pub returns-in-Some-Poseidon : goal.returns-in-Some-Poseidon
 unfolding builtin_of
-returns-in-Poseidon c = call_in c.body.ensures.0 (sym (ap builtin_of c.in-Poseidon.is) ∙ c.builtin_named.ensures) (poseidon_in c.in_list.ensures)
+returns-in-Some-Poseidon c = go c.in-Some-Poseidon.field-0 refl
+  where
+    go : (b : Builtin) → c.in-Some-Poseidon.field-0 ≡ b → Leads c.args.img.now c.args.scope.now c.args.rules c.args.d kCall c.args.at c.args.st c.args.end c.args.want c.in_list.result
+    go builtin.Poseidon e = call_in c.body.ensures.0 (rw e at c.in-Some-Poseidon.ensures) (poseidon_in c.in_list.ensures)
+    go builtin.Merkle e = call_in c.body.ensures.0 (rw e at c.in-Some-Poseidon.ensures) (merkle_in c.in_list.ensures)
+    go builtin.Sender e = absurd (omega (arith, ap (tag_of the_type) e))
+    go builtin.Nonce e = absurd (omega (arith, ap (tag_of the_type) e))
+    go builtin.BlockNumber e = absurd (omega (arith, ap (tag_of the_type) e))
 
-pub returns-in-Merkle : goal.returns-in-Merkle
+pub returns-in-Some-Sender : goal.returns-in-Some-Sender
 unfolding builtin_of
-returns-in-Merkle c = call_in c.body.ensures.0 (sym (ap builtin_of c.in-Merkle.is) ∙ c.builtin_named.ensures) (merkle_in c.in_list-in-Merkle.ensures)
+returns-in-Some-Sender c = go c.in-Some-Sender.field-0 refl
+  where
+    go : (b : Builtin) → c.in-Some-Sender.field-0 ≡ b → Leads c.args.img.now c.args.scope.now c.args.rules c.args.d kCall c.args.at c.args.st c.args.end c.args.want c.own.result
+    go builtin.Sender e = call_in c.body.ensures.0 (rw e at c.in-Some-Sender.ensures) (sender_own c.own.ensures)
+    go builtin.Nonce e = call_in c.body.ensures.0 (rw e at c.in-Some-Sender.ensures) (nonce_own c.own.ensures)
+    go builtin.BlockNumber e = call_in c.body.ensures.0 (rw e at c.in-Some-Sender.ensures) (number_own c.own.ensures)
+    go builtin.Poseidon e = absurd (omega (arith, ap (tag_of the_type) e))
+    go builtin.Merkle e = absurd (omega (arith, ap (tag_of the_type) e))
 
-pub returns-in-Sender : goal.returns-in-Sender
+pub returns-in-None : goal.returns-in-None
 unfolding builtin_of
-returns-in-Sender c = call_in c.body.ensures.0 (sym (ap builtin_of c.in-Sender.is) ∙ c.builtin_named.ensures) (sender_own c.own.ensures)
-
-pub returns-in-Nonce : goal.returns-in-Nonce
-unfolding builtin_of
-returns-in-Nonce c = call_in c.body.ensures.0 (sym (ap builtin_of c.in-Nonce.is) ∙ c.builtin_named.ensures) (nonce_own c.own-in-Nonce.ensures)
-
-pub returns-in-BlockNumber : goal.returns-in-BlockNumber
-unfolding builtin_of
-returns-in-BlockNumber c = call_in c.body.ensures.0 (sym (ap builtin_of c.in-BlockNumber.is) ∙ c.builtin_named.ensures) (number_own c.own-in-BlockNumber.ensures)
-
-pub returns-in-Nothing : goal.returns-in-Nothing
-unfolding builtin_of
-returns-in-Nothing c = call_in c.body.ensures.0 (sym (ap builtin_of c.in-Nothing.is) ∙ c.builtin_named.ensures) c.in_user.ensures
+returns-in-None c = call_in c.body.ensures.0 c.in-None.ensures c.in_user.ensures

@@ -1,4 +1,5 @@
 -- analyse_checked meets its contract.
+use Rattle.lookup.specs.Results.{handed_on}
 use Rattle.rules.specs.Read.{contract_at}
 use Rattle.notes.specs.Wrote.{refused, wrote}
 use Rattle.lookup.specs.Answers.{checked_of}
@@ -10,8 +11,8 @@ use Rattle.sema.proofs.analyse_checked.Goals as goal
 pub loop-i-init : goal.loop-i-init
 loop-i-init c = (omega arith, (refl, (from_start c.args.img.now, notes_start c.args.img.now _)))
 
-pub analyze_function-a-requires : goal.analyze_function-a-requires
-analyze_function-a-requires c = (c.requires.0, rw (c.function_place-p.ensures c.args.img.now c.requires.0 (omega (arith, c.loop-i-test.true, c.function_count-n.ensures c.args.img.now c.requires.0))) (omega (arith, names_fit c.args.img.now c.requires.1.0 c.loop-i.i (omega (arith, c.loop-i-test.true, c.function_count-n.ensures c.args.img.now c.requires.0)), c.loop-i.invariant.1.0, c.requires.1.1)))
+pub analyze_function-requires : goal.analyze_function-requires
+analyze_function-requires c = (c.requires.0, rw (c.function_place-p.ensures c.args.img.now c.requires.0 (omega (arith, c.loop-i-test.true, c.function_count-n.ensures c.args.img.now c.requires.0))) (omega (arith, names_fit c.args.img.now c.requires.1.0 c.loop-i.i (omega (arith, c.loop-i-test.true, c.function_count-n.ensures c.args.img.now c.requires.0)), c.loop-i.invariant.1.0, c.requires.1.1)))
 
 pub overflow_add-i : goal.overflow_add-i
 overflow_add-i c = omega arith
@@ -21,11 +22,11 @@ loop-i-smaller c = omega (arith, c.loop-i-test.true, c.function_count-n.ensures 
 
 pub loop-i-preserved : goal.loop-i-preserved
 unfolding checked_of
-loop-i-preserved c = (omega (arith, c.loop-i-test.true, c.function_count-n.ensures c.args.img.now c.requires.0), (c.analyze_function-a.ensures.1.0 ∙ c.loop-i.invariant.1.0, (c.loop-i.invariant.1.1.0 ∙ from_next c.args.img.now c.loop-i.i (omega (arith, c.loop-i-test.true, c.function_count-n.ensures c.args.img.now c.requires.0)) (sym (ap (checked_of c.args.img.now) c.in-Fine.is) ∙ rw (c.function_place-p.ensures c.args.img.now c.requires.0 (omega (arith, c.loop-i-test.true, c.function_count-n.ensures c.args.img.now c.requires.0))) at c.analyze_function-a.ensures.0), c.loop-i.invariant.1.1.1 ∙ notes_next c.args.img.now _ c.loop-i.i (omega (arith, c.loop-i-test.true, c.function_count-n.ensures c.args.img.now c.requires.0)) ((rw (c.function_place-p.ensures c.args.img.now c.requires.0 (omega (arith, c.loop-i-test.true, c.function_count-n.ensures c.args.img.now c.requires.0))) at c.analyze_function-a.ensures.1.1).all _ (ap (checked_of c.args.img.now) c.in-Fine.is)))))
+loop-i-preserved c = (omega (arith, c.loop-i-test.true, c.function_count-n.ensures c.args.img.now c.requires.0), (c.in_ok-analyze_function.ensures.1.0 ∙ c.loop-i.invariant.1.0, (c.loop-i.invariant.1.1.0 ∙ from_next c.args.img.now c.loop-i.i (omega (arith, c.loop-i-test.true, c.function_count-n.ensures c.args.img.now c.requires.0)) (rw (c.function_place-p.ensures c.args.img.now c.requires.0 (omega (arith, c.loop-i-test.true, c.function_count-n.ensures c.args.img.now c.requires.0))) at c.in_ok-analyze_function.ensures.0), c.loop-i.invariant.1.1.1 ∙ notes_next c.args.img.now _ c.loop-i.i (omega (arith, c.loop-i-test.true, c.function_count-n.ensures c.args.img.now c.requires.0)) ((rw (c.function_place-p.ensures c.args.img.now c.requires.0 (omega (arith, c.loop-i-test.true, c.function_count-n.ensures c.args.img.now c.requires.0))) at c.in_ok-analyze_function.ensures.1.1).all _ refl))))
 
-pub returns-in-Refused : goal.returns-in-Refused
+pub returns-in_err-analyze_function : goal.returns-in_err-analyze_function
 unfolding checked_of
-returns-in-Refused c = rw c.in-Refused.is (from_bad c.args.img.now c.loop-i.i (omega (arith, c.loop-i-test.true, c.function_count-n.ensures c.args.img.now c.requires.0)) (sym (ap (checked_of c.args.img.now) c.in-Refused.is) ∙ rw (c.function_place-p.ensures c.args.img.now c.requires.0 (omega (arith, c.loop-i-test.true, c.function_count-n.ensures c.args.img.now c.requires.0))) at c.analyze_function-a.ensures.0) ∙ sym c.loop-i.invariant.1.1.0, refused (contract_at c.args.img.now) _ _ refl)
+returns-in_err-analyze_function c = rw (handed_on _ _ c.from_residual.ensures.1) ((from_bad c.args.img.now c.loop-i.i (omega (arith, c.loop-i-test.true, c.function_count-n.ensures c.args.img.now c.requires.0)) (rw (c.function_place-p.ensures c.args.img.now c.requires.0 (omega (arith, c.loop-i-test.true, c.function_count-n.ensures c.args.img.now c.requires.0))) at c.in_err-analyze_function.ensures.0) ∙ sym c.loop-i.invariant.1.1.0, refused (contract_at c.args.img.now) _ _ refl))
 
 pub returns : goal.returns
 unfolding checked_of

@@ -1,4 +1,5 @@
 -- analyze_write meets its contract.
+use Rattle.lookup.specs.Results.{handed_on}
 use Rattle.rules.specs.Meant.{of_stmt}
 use Rattle.bounds.specs.Sizes.{vars}
 use Rattle.lookup.specs.Answers.{typed_of}
@@ -6,19 +7,19 @@ use Rattle.rules.specs.Analyse.{stmt}
 use Rattle.rules.specs.Read.{stmt_as}
 use Rattle.sema.proofs.Runs.{first_bad, first_ok}
 use Rattle.sema.specs.Steps.{only}
-use mathlib.Core.Path.{◌∙◌, ap, sym}
+use mathlib.Core.Path.{refl, ◌∙◌, ap, sym}
 use Rattle.sema.proofs.analyze_write.Goals as goal
 
-pub analyze_expr-t-requires : goal.analyze_expr-t-requires
-analyze_expr-t-requires c = c.requires
+pub analyze_expr-requires : goal.analyze_expr-requires
+analyze_expr-requires c = c.requires
 
 pub run_expr-requires : goal.run_expr-requires
 run_expr-requires c = c.requires
 
-pub returns-in-Is : goal.returns-in-Is
+pub returns : goal.returns
 unfolding stmt of_stmt stmt_as vars typed_of only
-returns-in-Is c = λ R. first_ok _ _ (sym (ap (typed_of c.args.img.now) c.in-Is.is) ∙ rw (c.past-key.ensures.0, c.body.ensures.0) at c.analyze_expr-t.ensures.0) ((rw (c.past-key.ensures.0, c.body.ensures.0) at c.analyze_expr-t.ensures.1).all _ (ap (typed_of c.args.img.now) c.in-Is.is)) (rw (c.past.ensures.0, c.past-key.ensures.0, c.body.ensures.0) at c.run_expr.ensures)
+returns c = λ R. first_ok _ _ (rw (c.past-key.ensures.0, c.body.ensures.0) at c.in_ok-analyze_expr.ensures.0) ((rw (c.past-key.ensures.0, c.body.ensures.0) at c.in_ok-analyze_expr.ensures.1).all _ refl) (rw (c.past.ensures.0, c.past-key.ensures.0, c.body.ensures.0) at c.run_expr.ensures)
 
-pub returns-in-Refused : goal.returns-in-Refused
+pub returns-in_err-analyze_expr : goal.returns-in_err-analyze_expr
 unfolding stmt of_stmt stmt_as vars typed_of
-returns-in-Refused c = λ R. first_bad _ (sym (ap (typed_of c.args.img.now) c.in-Refused.is) ∙ rw (c.past-key.ensures.0, c.body.ensures.0) at c.analyze_expr-t.ensures.0)
+returns-in_err-analyze_expr c = λ R. rw (handed_on _ _ c.from_residual.ensures.1) (first_bad _ (rw (c.past-key.ensures.0, c.body.ensures.0) at c.in_err-analyze_expr.ensures.0))

@@ -8,5 +8,5 @@ pub returns-then-clashing : goal.returns-then-clashing
 unfolding fault_of
 returns-then-clashing c = λ e N. still_bad (unless_bad _ _ c.clashing.ensures c.if-clashing.true)
 
-pub returns-else-clashing : goal.returns-else-clashing
-returns-else-clashing c = λ e N. still_ok (unless_ok _ _ c.clashing.ensures c.if-clashing.false)
+pub returns : goal.returns
+returns c = λ e N. still_ok (unless_ok _ _ c.clashing.ensures c.if-clashing.false)

@@ -1,8 +1,12 @@
 -- `step_stmt` meets its contract.
 use native.Mathlib.Omega.{arith}
-use mathlib.Core.Path.{ap}
+use mathlib.Core.Path.{◌≡◌, refl, ap}
+use mathlib.Core.Bool.{Bool, true, false}
+use lib.Dec.{eqb}
+use borrow.Author.Tests.{eqb-true, eqb-false}
 use Rattle.rules.specs.Bytes.{pick}
 use Rattle.rules.specs.Read.{stmt_kind_of, sLet, sConstrain, sAssign, sStorage, sMapping, sIf, sWhile, sFor, sReturn, sEmit, sExpr}
+use Rattle.trace.specs.Moves.{Steps}
 use Rattle.trace.specs.Parts.{let_in, constrain_in, assign_in, storage_in, just_in}
 use Rattle.trace.specs.Lists.{kind_in, kind_ready, kind_own}
 use Rattle.trace.proofs.step_stmt.Goals as goal
@@ -10,14 +14,8 @@ use Rattle.trace.proofs.step_stmt.Goals as goal
 pub in_value-requires : goal.in_value-requires
 in_value-requires c = c.requires.known
 
-pub in_value-requires-in-33 : goal.in_value-requires-in-33
-in_value-requires-in-33 c = c.requires.known
-
-pub in_value-requires-in-34 : goal.in_value-requires-in-34
-in_value-requires-in-34 c = c.requires.known
-
-pub in_value-requires-in-35 : goal.in_value-requires-in-35
-in_value-requires-in-35 c = c.requires.known
+pub in_value-requires-in-32 : goal.in_value-requires-in-32
+in_value-requires-in-32 c = c.requires.known
 
 pub in_mapping-requires : goal.in_mapping-requires
 in_mapping-requires c = c.requires.known
@@ -40,24 +38,26 @@ in_return-requires c = c.requires.known
 pub in_emit-requires : goal.in_emit-requires
 in_emit-requires c = c.requires.known
 
-pub in_value-requires-in-42 : goal.in_value-requires-in-42
-in_value-requires-in-42 c = c.requires.known
-
 pub returns-in-32 : goal.returns-in-32
 unfolding stmt_kind_of pick
-returns-in-32 c = kind_in c.args.img.now c.args.d c.args.at sLet c.kind.ensures.0 (ap stmt_kind_of c.in-32.is) (let_in c.body-first.ensures.0 c.past-second.ensures.0 c.in_value.ensures)
+returns-in-32 c = go (eqb c.kind.result 32) (eqb c.kind.result 34) refl refl
+  where
+    go : (x y : Bool) → eqb c.kind.result 32 ≡ x → eqb c.kind.result 34 ≡ y → Steps c.args.img.now c.args.tables.now c.args.notes.now c.args.scope.now c.args.scope.now c.args.rules c.args.d c.args.at c.args.st c.args.end c.args.want c.in_value-in-32.result
+    go true y e f = kind_in c.args.img.now c.args.d c.args.at sLet c.kind.ensures.0 (ap stmt_kind_of (eqb-true c.kind.result 32 e)) (let_in c.body-first.ensures.0 c.past-second.ensures.0 c.in_value-in-32.ensures)
+    go false true e f = kind_in c.args.img.now c.args.d c.args.at sAssign c.kind.ensures.0 (ap stmt_kind_of (eqb-true c.kind.result 34 f)) (assign_in c.body-first.ensures.0 c.past-second.ensures.0 c.in_value-in-32.ensures)
+    go false false e f =
+        let q : c.kind.result ≡ 35 = grind (arith, eqb-false c.kind.result 32 e, eqb-false c.kind.result 34 f) in
+        kind_in c.args.img.now c.args.d c.args.at sStorage c.kind.ensures.0 (ap stmt_kind_of q) (storage_in c.body-first.ensures.0 c.past-second.ensures.0 c.in_value-in-32.ensures)
 
 pub returns-in-33 : goal.returns-in-33
 unfolding stmt_kind_of pick
-returns-in-33 c = kind_in c.args.img.now c.args.d c.args.at sConstrain c.kind.ensures.0 (ap stmt_kind_of c.in-33.is) (constrain_in c.body-first.ensures.0 c.in_value-in-33.ensures)
-
-pub returns-in-34 : goal.returns-in-34
-unfolding stmt_kind_of pick
-returns-in-34 c = kind_in c.args.img.now c.args.d c.args.at sAssign c.kind.ensures.0 (ap stmt_kind_of c.in-34.is) (assign_in c.body-first.ensures.0 c.past-second.ensures.0 c.in_value-in-34.ensures)
-
-pub returns-in-35 : goal.returns-in-35
-unfolding stmt_kind_of pick
-returns-in-35 c = kind_in c.args.img.now c.args.d c.args.at sStorage c.kind.ensures.0 (ap stmt_kind_of c.in-35.is) (storage_in c.body-first.ensures.0 c.past-second.ensures.0 c.in_value-in-35.ensures)
+returns-in-33 c = go (eqb c.kind.result 33) refl
+  where
+    go : (x : Bool) → eqb c.kind.result 33 ≡ x → Steps c.args.img.now c.args.tables.now c.args.notes.now c.args.scope.now c.args.scope.now c.args.rules c.args.d c.args.at c.args.st c.args.end c.args.want c.in_value.result
+    go true e = kind_in c.args.img.now c.args.d c.args.at sConstrain c.kind.ensures.0 (ap stmt_kind_of (eqb-true c.kind.result 33 e)) (constrain_in c.body-first.ensures.0 c.in_value.ensures)
+    go false e =
+        let q : c.kind.result ≡ 42 = omega (arith, eqb-false c.kind.result 33 e) in
+        kind_in c.args.img.now c.args.d c.args.at sExpr c.kind.ensures.0 (ap stmt_kind_of q) (just_in c.body-first.ensures.0 c.in_value.ensures)
 
 pub returns-in-36 : goal.returns-in-36
 unfolding stmt_kind_of pick
@@ -89,9 +89,5 @@ pub returns-in-41 : goal.returns-in-41
 unfolding stmt_kind_of pick
 returns-in-41 c = kind_in c.args.img.now c.args.d c.args.at sEmit c.kind.ensures.0 (ap stmt_kind_of c.in-41.is) c.in_emit.ensures
 
-pub returns-in-42 : goal.returns-in-42
-unfolding stmt_kind_of pick
-returns-in-42 c = kind_in c.args.img.now c.args.d c.args.at sExpr c.kind.ensures.0 (ap stmt_kind_of c.in-42.is) (just_in c.body-first.ensures.0 c.in_value-in-42.ensures)
-
 pub returns-in_default : goal.returns-in_default
-returns-in_default c = kind_own c.kind.ensures.0 (omega arith) (omega arith) (omega arith) (omega arith) (omega arith) (omega arith) (omega arith) (omega arith) (omega arith) (omega arith) (omega arith) c.own.ensures
+returns-in_default c = kind_own c.kind.ensures.0 (omega arith) (omega arith) (omega arith) (omega arith) (omega arith) (omega arith) (omega arith) (omega arith) (omega arith) (omega arith) (grind arith) c.own.ensures

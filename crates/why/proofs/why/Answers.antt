@@ -1,19 +1,27 @@
 -- `why::why` meets its contract.
-use mathlib.Core.Path.{ap, ◌∙◌}
+use Rattle.std.proofs.Common.{ap, refl, sym, ◌∙◌}
 use Rattle.rules.specs.Build.{analysis_answer}
 use Rattle.notes.specs.Wrote.{blank}
-use Rattle.compiler.proofs.Making.{front_ready}
+use Rattle.sema.specs.Front.{judged_of, refused_of}
+use Rattle.compiler.proofs.Making.{no_refusal}
 use Rattle.why.specs.Answers.{whole_refused, whole_generated}
 use Rattle.why.proofs.why.Goals as goal
 
 pub judge-requires : goal.judge-requires
 judge-requires c = blank
 
-pub returns-then-j-ne0 : goal.returns-then-j-ne0
-returns-then-j-ne0 c = whole_refused c.args.image.now c.args.index (c.answer_of-j.ensures c.args.image.now ∙ ap analysis_answer c.judge.ensures.answers) c.if-j-ne0.true c.refused.ensures
+pub returns-in-Err : goal.returns-in-Err
+unfolding judged_of analysis_answer
+returns-in-Err c =
+    let told = c.answer.ensures c.args.image.now in
+    let front = c.in-Err.ensures.answers in
+    whole_refused c.args.image.now c.args.index (told ∙ ap analysis_answer front) (no_refusal c.args.image.now (refused_of c.args.image.now c.in-Err.judged) front told) c.refused.ensures
 
 pub generated-requires : goal.generated-requires
-generated-requires c = front_ready c.args.image.now c.judge.ensures (c.answer_of-j.ensures c.args.image.now) c.if-j-ne0.false
+generated-requires c = c.in_default.ensures.ready refl
 
 pub returns : goal.returns
-returns c = whole_generated c.args.image.now c.args.index (c.answer_of-j.ensures c.args.image.now ∙ ap analysis_answer c.judge.ensures.answers) c.if-j-ne0.false c.generated.ensures
+unfolding judged_of analysis_answer
+returns c =
+    let front = c.in_default.ensures.answers in
+    whole_generated c.args.image.now c.args.index refl (ap (λ m. (analysis_answer m).refusal) (sym front)) c.generated.ensures

@@ -1,6 +1,5 @@
 -- is_ambiguous meets its contract.
-use Rattle.ambiguous.proofs.Clashes.{remains, begins, hits, passes, ends}
-use Rattle.fields.specs.Spots.{spot_of}
+use Rattle.ambiguous.proofs.Clashes.{or_or_else, remains, begins, hits, passes, ends}
 use Rattle.fields.specs.Steps.{past_all}
 use Rattle.ambiguous.specs.Spots.{unsure}
 use Rattle.rules.specs.Read.{contract_at}
@@ -9,20 +8,19 @@ use native.Mathlib.Omega.{arith}
 use Rattle.ambiguous.proofs.apart.is_ambiguous.Goals as goal
 
 pub loop-i-init : goal.loop-i-init
-unfolding spot_of
 loop-i-init c = (omega arith, begins c.args.img.now _)
 
 pub position_at-here-requires : goal.position_at-here-requires
 position_at-here-requires c = (c.requires, rw (c.struct_count-n.ensures c.args.img.now c.requires) at c.loop-i-test.true)
 
 pub returns-then-differ : goal.returns-then-differ
-returns-then-differ c = sym (c.loop-i.invariant.1 ∙ ap (remains (spot_of c.loop-i.first)) c.position_at-here.ensures.is ∙ hits (spot_of c.loop-i.first) (spot_of c.position_at-here.result) _ (sym c.differ.ensures ∙ c.if-differ.true)) ∙ ap (unsure (contract_at c.args.img.now)) c.name-name.ensures
+returns-then-differ c = sym (c.loop-i.invariant.1 ∙ ap (remains c.loop-i.first) c.position_at-here.ensures.is ∙ hits c.loop-i.first c.position_at-here.result _ (sym c.differ.ensures ∙ c.if-differ.true)) ∙ ap (unsure (contract_at c.args.img.now)) c.name-name.ensures
 
 pub loop-i-smaller : goal.loop-i-smaller
 loop-i-smaller c = omega (arith, c.loop-i-test.true)
 
 pub loop-i-preserved : goal.loop-i-preserved
-loop-i-preserved c = (omega arith, rw c.or_else-first.ensures (c.loop-i.invariant.1 ∙ ap (remains (spot_of c.loop-i.first)) c.position_at-here.ensures.is ∙ passes (spot_of c.loop-i.first) (spot_of c.position_at-here.result) _ (sym c.differ.ensures ∙ c.if-differ.false)))
+loop-i-preserved c = (omega arith, rw (c.or-first.ensures, or_or_else) (c.loop-i.invariant.1 ∙ ap (remains c.loop-i.first) c.position_at-here.ensures.is ∙ passes c.loop-i.first c.position_at-here.result _ (sym c.differ.ensures ∙ c.if-differ.false)))
 
 pub returns : goal.returns
-returns c = sym (c.loop-i.invariant.1 ∙ ends (spot_of c.loop-i.first) _ (past_all c.args.img.now _ c.loop-i.i (rw (c.struct_count-n.ensures c.args.img.now c.requires) at c.loop-i-test.false))) ∙ ap (unsure (contract_at c.args.img.now)) c.name-name.ensures
+returns c = sym (c.loop-i.invariant.1 ∙ ends c.loop-i.first _ (past_all c.args.img.now _ c.loop-i.i (rw (c.struct_count-n.ensures c.args.img.now c.requires) at c.loop-i-test.false))) ∙ ap (unsure (contract_at c.args.img.now)) c.name-name.ensures

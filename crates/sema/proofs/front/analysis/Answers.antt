@@ -6,7 +6,7 @@ use Rattle.sema.proofs.front.analysis.Goals as goal
 
 pub behind_check-requires : goal.behind_check-requires
 unfolding passed
-behind_check-requires c = (ap passed (sym c.check.ensures ∙ c.in-Sound.is), c.requires)
+behind_check-requires c = (ap passed (sym c.in-Ok.ensures), c.requires)
 
-pub returns-in-Fault : goal.returns-in-Fault
-returns-in-Fault c = faulted _ _ _ (sym c.check.ensures ∙ c.in-Fault.is)
+pub returns-in-Err : goal.returns-in-Err
+returns-in-Err c = faulted _ _ _ (sym c.in-Err.ensures)

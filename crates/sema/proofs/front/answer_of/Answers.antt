@@ -1,15 +1,12 @@
 -- `front::answer_of` meets its contract.
-use Rattle.sema.proofs.Fronts.{image_told, analysis_told, ambiguous_told, fine_told}
+use Rattle.rules.specs.Build.{analysis_answer}
+use Rattle.sema.specs.Front.{judged_of}
 use Rattle.sema.proofs.front.answer_of.Goals as goal
 
-pub returns-in-Image : goal.returns-in-Image
-returns-in-Image c = λ img. image_told img c.in-Image.is c.answer_at.ensures
+pub returns-in-Ok : goal.returns-in-Ok
+unfolding judged_of analysis_answer
+returns-in-Ok c = λ img. rw c.in-Ok.is c.answer_at.ensures
 
-pub returns-in-Analysis : goal.returns-in-Analysis
-returns-in-Analysis c = λ img. analysis_told img c.in-Analysis.is (c.refusal.ensures img)
-
-pub returns-in-Ambiguous : goal.returns-in-Ambiguous
-returns-in-Ambiguous c = λ img. ambiguous_told img c.in-Ambiguous.is c.answer_at-in-Ambiguous.ensures
-
-pub returns-in-Fine : goal.returns-in-Fine
-returns-in-Fine c = λ img. fine_told img c.in-Fine.is c.answer_at-in-Fine.ensures
+pub returns-in-Err : goal.returns-in-Err
+unfolding judged_of analysis_answer
+returns-in-Err c = λ img. rw c.in-Err.is (c.answer.ensures img)

@@ -1,14 +1,15 @@
--- +analyze_else_analyze_for_analyze_if_analyze_list_analyze_loop_analyze_stmt_analyze_while meets its contract.
+-- +analyze_stmt meets its contract.
+use Rattle.std.specs.Prelude.{Result}
 use Prim.Native.Nat.{◌*◌, ◌+◌, ◌≤◌, ℕ}
 use Rattle.bounds.specs.Sizes.{vars-stmts}
 use Rattle.lookup.specs.Answers.{ty_of}
 use Rattle.rules.specs.Read.{body_at, stmt_at_lem, stmts_from}
 use Rattle.sema.specs.Steps.{Steps}
-use Rattle.sema.specs.declared.After.{After}
 use lib.ListN.{length}
+use Rattle.lookup.specs.declared.Fault.{Fault}
 use mathlib.Core.List.{List}
 use mathlib.Core.Path.{◌≡◌}
-use Rattle.sema.proofs.+analyze_else_analyze_for_analyze_if_analyze_list_analyze_loop_analyze_stmt_analyze_while.Given as goal
+use Rattle.sema.proofs.+analyze_stmt.Given as goal
 
 abbrev pub decreases-analyze_else : goal.decreases-analyze_else
 decreases-analyze_else l = 6 * l.d + 2
@@ -32,7 +33,7 @@ abbrev pub decreases-analyze_while : goal.decreases-analyze_while
 decreases-analyze_while l = 6 * l.d + 3
 
 abbrev pub invariant-analyze_list-loop-k : goal.invariant-analyze_list-loop-k
-invariant-analyze_list-loop-k l = (l.t + 2 * vars-stmts (stmts_from l.k (stmt_at_lem l.d l.img) l.img l.p l.end) ≤ length l.env) × ((length l.env ≡ length l.initial.env) × ((e2 M : List ℕ) (r : After) → Steps l.img l.env e2 l.notes M l.t r (ty_of l.img l.ret) (stmts_from l.k (stmt_at_lem l.d l.img) l.img l.p l.end) → Steps l.img l.initial.env e2 l.initial.notes M l.top r (ty_of l.img l.ret) (body_at (stmt_at_lem l.d l.img) l.img l.at)))
+invariant-analyze_list-loop-k l = (l.t + 2 * vars-stmts (stmts_from l.k (stmt_at_lem l.d l.img) l.img l.p l.end) ≤ length l.env) × ((length l.env ≡ length l.initial.env) × ((e2 M : List ℕ) (r : Result ℕ Fault) → Steps l.img l.env e2 l.notes M l.t r (ty_of l.img l.ret) (stmts_from l.k (stmt_at_lem l.d l.img) l.img l.p l.end) → Steps l.img l.initial.env e2 l.initial.notes M l.top r (ty_of l.img l.ret) (body_at (stmt_at_lem l.d l.img) l.img l.at)))
 
 abbrev pub decreases-analyze_list-loop-k : goal.decreases-analyze_list-loop-k
 decreases-analyze_list-loop-k l = l.k

@@ -1,6 +1,7 @@
 -- The cycle {gen_args, gen_binary, gen_call, gen_expr, gen_field, gen_inits, gen_list, gen_literal, gen_mapping, gen_merkle, gen_poseidon, gen_user} meets its contracts; each answer begins with the name of its function.
+use Rattle.std.specs.Prelude.{None, Some}
 use Prim.Native.Nat.{ℕ}
-use mathlib.Core.Path.{ap, ◌∙◌, sym}
+use mathlib.Core.Path.{ap, ◌∙◌}
 use Rattle.expr.specs.declared.steps.Several.{Several}
 use Rattle.expr.proofs.Walk.{args_full, args_end, binary_value, call_value, as_sender, as_nonce, as_number, at_zero, kind_other, no_value, other_value, by_kind, field_value, inits_full, inits_end, args_at, literal_value, mapping_value, merkle_value, poseidon_value, user_value}
 use Rattle.expr.proofs.Loops.{gather_begin, args_go, gather_end, inits_go}
@@ -9,9 +10,8 @@ use Rattle.rules.specs.Emit.{opcode}
 use Rattle.rules.specs.Read.{bin_op_of, kInt, kIdent, kStorage, kMapping, kAccess, kLiteral, kBinary, kCall, kOther, kind_of}
 use Rattle.expr.specs.Names.{builtin_of}
 use Rattle.rules.specs.Builtins.{Builtin}
-use mathlib.Core.Option.{none, some}
 use Rattle.rules.specs.Bytes.{pick, after}
-use Rattle.expr.proofs.+gen_args_gen_binary_gen_call_gen_expr_gen_field_gen_inits_gen_list_gen_literal_gen_mapping_gen_merkle_gen_poseidon_gen_user.Goals as goal
+use Rattle.expr.proofs.+gen_expr.Goals as goal
 
 pub gen_args-loop-v-init : goal.gen_args-loop-v-init
 gen_args-loop-v-init t c = gather_begin _ _ _ _ _ c.requires.1
@@ -43,29 +43,29 @@ gen_args-returns-after-loop-v t c = gather_end _ _ _ _ c.loop-v.invariant (args_
 pub gen_binary-returns : goal.gen_binary-returns
 gen_binary-returns t c = binary_value c.args.img.now c.args.scope.now c.args.rules c.args.st _ _ _ _ _ _ _ _ _ _ _ _ _ c.body-left.ensures.0 c.past-op.ensures.0 c.past-right.ensures.0 (c.opcode-opcode.ensures ∙ ap (λ (k : ℕ). opcode (bin_op_of k)) c.op.ensures.0) c.gen_expr-a.ensures c.gen_expr-b.ensures c.combine.ensures
 
-pub gen_call-returns-in-Poseidon : goal.gen_call-returns-in-Poseidon
+pub gen_call-returns-in-Some-Poseidon : goal.gen_call-returns-in-Some-Poseidon
 unfolding builtin_of
-gen_call-returns-in-Poseidon t c = call_value c.args.img.now c.args.scope.now c.args.rules c.args.st _ _ _ _ _ _ (some Builtin.poseidon) c.body.ensures.0 (sym (ap builtin_of c.in-Poseidon.is) ∙ c.builtin_named.ensures) c.gen_poseidon.ensures
+gen_call-returns-in-Some-Poseidon t c = call_value c.args.img.now c.args.scope.now c.args.rules c.args.st _ _ _ _ _ _ (Some Builtin.poseidon) c.body.ensures.0 (rw c.in-Some-Poseidon.field-0-is at c.in-Some-Poseidon.ensures) c.gen_poseidon.ensures
 
-pub gen_call-returns-in-Sender : goal.gen_call-returns-in-Sender
+pub gen_call-returns-in-Some-Sender : goal.gen_call-returns-in-Some-Sender
 unfolding builtin_of
-gen_call-returns-in-Sender t c = call_value c.args.img.now c.args.scope.now c.args.rules c.args.st _ _ _ _ _ _ (some Builtin.sender) c.body.ensures.0 (sym (ap builtin_of c.in-Sender.is) ∙ c.builtin_named.ensures) (as_sender c.args.img.now c.args.scope.now c.args.rules c.args.st _ _ _ _ _ c.gen_syscall.ensures)
+gen_call-returns-in-Some-Sender t c = call_value c.args.img.now c.args.scope.now c.args.rules c.args.st _ _ _ _ _ _ (Some Builtin.sender) c.body.ensures.0 (rw c.in-Some-Sender.field-0-is at c.in-Some-Sender.ensures) (as_sender c.args.img.now c.args.scope.now c.args.rules c.args.st _ _ _ _ _ c.gen_syscall.ensures)
 
-pub gen_call-returns-in-Nonce : goal.gen_call-returns-in-Nonce
+pub gen_call-returns-in-Some-Nonce : goal.gen_call-returns-in-Some-Nonce
 unfolding builtin_of
-gen_call-returns-in-Nonce t c = call_value c.args.img.now c.args.scope.now c.args.rules c.args.st _ _ _ _ _ _ (some Builtin.nonce) c.body.ensures.0 (sym (ap builtin_of c.in-Nonce.is) ∙ c.builtin_named.ensures) (as_nonce c.args.img.now c.args.scope.now c.args.rules c.args.st _ _ _ _ _ c.gen_syscall-in-Nonce.ensures)
+gen_call-returns-in-Some-Nonce t c = call_value c.args.img.now c.args.scope.now c.args.rules c.args.st _ _ _ _ _ _ (Some Builtin.nonce) c.body.ensures.0 (rw c.in-Some-Nonce.field-0-is at c.in-Some-Nonce.ensures) (as_nonce c.args.img.now c.args.scope.now c.args.rules c.args.st _ _ _ _ _ c.gen_syscall-in-Some-Nonce.ensures)
 
-pub gen_call-returns-in-BlockNumber : goal.gen_call-returns-in-BlockNumber
+pub gen_call-returns-in-Some-BlockNumber : goal.gen_call-returns-in-Some-BlockNumber
 unfolding builtin_of
-gen_call-returns-in-BlockNumber t c = call_value c.args.img.now c.args.scope.now c.args.rules c.args.st _ _ _ _ _ _ (some Builtin.block-number) c.body.ensures.0 (sym (ap builtin_of c.in-BlockNumber.is) ∙ c.builtin_named.ensures) (as_number c.args.img.now c.args.scope.now c.args.rules c.args.st _ _ _ _ _ c.gen_syscall-in-BlockNumber.ensures)
+gen_call-returns-in-Some-BlockNumber t c = call_value c.args.img.now c.args.scope.now c.args.rules c.args.st _ _ _ _ _ _ (Some Builtin.block-number) c.body.ensures.0 (rw c.in-Some-BlockNumber.field-0-is at c.in-Some-BlockNumber.ensures) (as_number c.args.img.now c.args.scope.now c.args.rules c.args.st _ _ _ _ _ c.gen_syscall-in-Some-BlockNumber.ensures)
 
-pub gen_call-returns-in-Merkle : goal.gen_call-returns-in-Merkle
+pub gen_call-returns-in-Some-Merkle : goal.gen_call-returns-in-Some-Merkle
 unfolding builtin_of
-gen_call-returns-in-Merkle t c = call_value c.args.img.now c.args.scope.now c.args.rules c.args.st _ _ _ _ _ _ (some Builtin.merkle) c.body.ensures.0 (sym (ap builtin_of c.in-Merkle.is) ∙ c.builtin_named.ensures) c.gen_merkle.ensures
+gen_call-returns-in-Some-Merkle t c = call_value c.args.img.now c.args.scope.now c.args.rules c.args.st _ _ _ _ _ _ (Some Builtin.merkle) c.body.ensures.0 (rw c.in-Some-Merkle.field-0-is at c.in-Some-Merkle.ensures) c.gen_merkle.ensures
 
-pub gen_call-returns-in-Nothing : goal.gen_call-returns-in-Nothing
+pub gen_call-returns-in-None : goal.gen_call-returns-in-None
 unfolding builtin_of
-gen_call-returns-in-Nothing t c = call_value c.args.img.now c.args.scope.now c.args.rules c.args.st _ _ _ _ _ _ (none) c.body.ensures.0 (sym (ap builtin_of c.in-Nothing.is) ∙ c.builtin_named.ensures) c.gen_user.ensures
+gen_call-returns-in-None t c = call_value c.args.img.now c.args.scope.now c.args.rules c.args.st _ _ _ _ _ _ None c.body.ensures.0 c.in-None.ensures c.gen_user.ensures
 
 pub gen_expr-returns-then-d-eq0 : goal.gen_expr-returns-then-d-eq0
 gen_expr-returns-then-d-eq0 t c = rw (at_zero c.args.d c.args.img.now c.args.at c.if-d-eq0.true) (no_value c.args.img.now c.args.scope.now c.args.rules c.args.st _ _ _ c.with.ensures)

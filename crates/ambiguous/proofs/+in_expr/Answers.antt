@@ -5,16 +5,15 @@ use Prim.Native.Nat.{◌-◌}
 use Rattle.rules.specs.Bytes.{pick, after}
 use Rattle.rules.specs.Read.{expr_at, expr_as, kind_of, kMapping, kAccess, kLiteral, kBinary, kCall, contract_at}
 use Rattle.rules.specs.Ambiguous.{in_expr_lem}
-use Rattle.ambiguous.specs.Spots.{spot_of}
 use Rattle.ambiguous.proofs.Trees.{at_zero, at_kind}
 use Rattle.ambiguous.proofs.Walk.{then_first, then_second, leaf_kind, args_zero, args_end, args_here, args_next, inits_none, inits_over, inits_here, inits_next}
-use Rattle.ambiguous.proofs.+in_access_in_args_in_expr_in_inits_in_two.Goals as goal
+use Rattle.ambiguous.proofs.+in_expr.Goals as goal
 
 pub in_access-is_ambiguous_at-requires : goal.in_access-is_ambiguous_at-requires
 in_access-is_ambiguous_at-requires t c = (c.requires, c.past.ensures.0 ∙ ap (after c.args.img.now) c.body-base.ensures.0)
 
 pub in_access-returns-then-is_ambiguous_at : goal.in_access-returns-then-is_ambiguous_at
-unfolding in_expr_lem expr_as pick spot_of
+unfolding in_expr_lem expr_as pick
 in_access-returns-then-is_ambiguous_at t c = rw (rw (c.past.ensures.0, c.body-base.ensures.0) at (sym c.is_ambiguous_at.ensures ∙ c.if-is_ambiguous_at.true))
 
 pub in_access-returns : goal.in_access-returns
@@ -24,22 +23,20 @@ in_access-returns t c = rw (rw (c.past.ensures.0, c.body-base.ensures.0) at (sym
 pub in_args-loop-k-init : goal.in_args-loop-k-init
 in_args-loop-k-init t c = rw (c.body-p.ensures.0, c.past-end.ensures.0)
 
-pub in_args-returns-in-At : goal.in_args-returns-in-At
-in_args-returns-in-At t c = args_here (contract_at c.args.img.now) c.args.img.now (expr_at c.args.d c.args.img.now) c.loop-k.k c.loop-k.p c.past-end.result c.loop-k-test.true c.if-p-end.true c.in-At.is c.in_expr-a.ensures ∙ sym c.loop-k.invariant
+pub in_args-returns-in-Some : goal.in_args-returns-in-Some
+in_args-returns-in-Some t c = args_here (contract_at c.args.img.now) c.args.img.now (expr_at c.args.d c.args.img.now) c.loop-k.k c.loop-k.p c.past-end.result c.loop-k-test.true c.if-p-end.true c.in-Some.ensures ∙ sym c.loop-k.invariant
 
 pub in_args-loop-k-preserved : goal.in_args-loop-k-preserved
-in_args-loop-k-preserved t c = c.loop-k.invariant ∙ rw c.past-p.ensures.0 (args_next (contract_at c.args.img.now) c.args.img.now (expr_at c.args.d c.args.img.now) c.loop-k.k c.loop-k.p c.past-end.result c.loop-k-test.true c.if-p-end.true c.in-Nowhere.is c.in_expr-a.ensures)
+in_args-loop-k-preserved t c = c.loop-k.invariant ∙ rw c.past-p.ensures.0 (args_next (contract_at c.args.img.now) c.args.img.now (expr_at c.args.d c.args.img.now) c.loop-k.k c.loop-k.p c.past-end.result c.loop-k-test.true c.if-p-end.true c.in_default.is c.in_expr.ensures)
 
 pub in_args-returns-else-p-end : goal.in_args-returns-else-p-end
-unfolding spot_of
 in_args-returns-else-p-end t c = args_end (contract_at c.args.img.now) c.args.img.now (expr_at c.args.d c.args.img.now) c.loop-k.k c.loop-k.p c.past-end.result c.if-p-end.false ∙ sym c.loop-k.invariant
 
 pub in_args-returns-after-loop-k : goal.in_args-returns-after-loop-k
-unfolding spot_of
 in_args-returns-after-loop-k t c = args_zero (contract_at c.args.img.now) c.args.img.now (expr_at c.args.d c.args.img.now) c.loop-k.k c.loop-k.p c.past-end.result c.loop-k-test.false ∙ sym c.loop-k.invariant
 
 pub in_expr-returns-then-d-eq0 : goal.in_expr-returns-then-d-eq0
-unfolding in_expr_lem spot_of
+unfolding in_expr_lem
 in_expr-returns-then-d-eq0 t c = rw (at_zero c.args.d c.args.img.now c.args.at c.if-d-eq0.true)
 
 pub in_expr-returns-in-67 : goal.in_expr-returns-in-67
@@ -63,28 +60,25 @@ unfolding in_expr_lem expr_as kind_of pick
 in_expr-returns-in-71 t c = rw (at_kind c.args.d c.args.img.now c.args.at c.kind-k.result kCall c.if-d-eq0.false c.kind-k.ensures.0 (ap kind_of c.in-71.is)) (rw c.second-in-71.ensures at c.in_args.ensures)
 
 pub in_expr-returns-in_default : goal.in_expr-returns-in_default
-unfolding spot_of
 in_expr-returns-in_default t c = rw (at_kind c.args.d c.args.img.now c.args.at c.kind-k.result (kind_of c.kind-k.result) c.if-d-eq0.false c.kind-k.ensures.0 refl) (leaf_kind (contract_at c.args.img.now) (expr_at (c.args.d - 1) c.args.img.now) c.args.img.now c.args.at c.kind-k.result (omega arith) (omega arith) (omega arith) (omega arith) (omega arith))
 
 pub in_inits-loop-k-init : goal.in_inits-loop-k-init
 in_inits-loop-k-init t c = rw (c.body-p.ensures.0, c.past-end.ensures.0)
 
-pub in_inits-returns-in-At : goal.in_inits-returns-in-At
-in_inits-returns-in-At t c = inits_here (contract_at c.args.img.now) c.args.img.now (expr_at c.args.d c.args.img.now) c.loop-k.k c.loop-k.p c.past-end.result c.loop-k-test.true c.if-p-end.true c.in-At.is (rw c.second.ensures at c.in_expr-a.ensures) ∙ sym c.loop-k.invariant
+pub in_inits-returns-in-Some : goal.in_inits-returns-in-Some
+in_inits-returns-in-Some t c = inits_here (contract_at c.args.img.now) c.args.img.now (expr_at c.args.d c.args.img.now) c.loop-k.k c.loop-k.p c.past-end.result c.loop-k-test.true c.if-p-end.true (rw c.second.ensures at c.in-Some.ensures) ∙ sym c.loop-k.invariant
 
 pub in_inits-loop-k-preserved : goal.in_inits-loop-k-preserved
-in_inits-loop-k-preserved t c = c.loop-k.invariant ∙ rw c.past-p.ensures.0 (inits_next (contract_at c.args.img.now) c.args.img.now (expr_at c.args.d c.args.img.now) c.loop-k.k c.loop-k.p c.past-end.result c.loop-k-test.true c.if-p-end.true c.in-Nowhere.is (rw c.second.ensures at c.in_expr-a.ensures))
+in_inits-loop-k-preserved t c = c.loop-k.invariant ∙ rw c.past-p.ensures.0 (inits_next (contract_at c.args.img.now) c.args.img.now (expr_at c.args.d c.args.img.now) c.loop-k.k c.loop-k.p c.past-end.result c.loop-k-test.true c.if-p-end.true c.in_default.is (rw c.second.ensures at c.in_expr.ensures))
 
 pub in_inits-returns-else-p-end : goal.in_inits-returns-else-p-end
-unfolding spot_of
 in_inits-returns-else-p-end t c = inits_over (contract_at c.args.img.now) c.args.img.now (expr_at c.args.d c.args.img.now) c.loop-k.k c.loop-k.p c.past-end.result c.if-p-end.false ∙ sym c.loop-k.invariant
 
 pub in_inits-returns-after-loop-k : goal.in_inits-returns-after-loop-k
-unfolding spot_of
 in_inits-returns-after-loop-k t c = inits_none (contract_at c.args.img.now) c.args.img.now (expr_at c.args.d c.args.img.now) c.loop-k.k c.loop-k.p c.past-end.result c.loop-k-test.false ∙ sym c.loop-k.invariant
 
-pub in_two-returns-in-At : goal.in_two-returns-in-At
-in_two-returns-in-At t c = then_first _ c.in-At.is c.in_expr-first.ensures
+pub in_two-returns-in-Some : goal.in_two-returns-in-Some
+in_two-returns-in-Some t c = then_first _ c.in-Some.ensures
 
-pub in_two-returns-in-Nowhere : goal.in_two-returns-in-Nowhere
-in_two-returns-in-Nowhere t c = then_second _ c.in-Nowhere.is c.in_expr-first.ensures c.in_expr.ensures
+pub in_two-returns-in-None : goal.in_two-returns-in-None
+in_two-returns-in-None t c = then_second _ c.in-None.is c.in_expr.ensures c.in_expr-in-None.ensures

@@ -20,7 +20,7 @@ use mathlib.Core.Bool.{true, false}
 use Rattle.emit.specs.Leaves.{raw_word}
 use Rattle.rules.specs.Bytes.{pick}
 use Rattle.stmt.proofs.Lists.{goes_on, begins, roomy, goes, ends_all}
-use Rattle.stmt.proofs.+gen_else_gen_for_gen_if_gen_loop_gen_stmt_gen_stmts_gen_while.Goals as goal
+use Rattle.stmt.proofs.+gen_stmt.Goals as goal
 
 pub gen_else-gen_stmts-requires : goal.gen_else-gen_stmts-requires
 gen_else-gen_stmts-requires t c = (omega arith, (rw (c.body-p.ensures.0, c.past-q.ensures.0) (rw (else_some (stmt_at_lem c.args.d c.args.img.now) c.args.img.now c.args.list c.args.end c.if-list-end.true) at c.requires), c.past-q.ensures.1))
@@ -133,95 +133,95 @@ gen_stmt-returns-then-depth-eq0 t c = rw (at_none c.args.depth c.args.img.now c.
 
 pub gen_stmt-gen_let-requires : goal.gen_stmt-gen_let-requires
 unfolding stmt_kind_of pick
-gen_stmt-gen_let-requires t c = rw (at_kind c.args.depth c.args.img.now c.args.at c.kind-k.result sLet c.if-depth-eq0.false c.kind-k.ensures.0 (ap stmt_kind_of c.in-32.is)) at c.requires
+gen_stmt-gen_let-requires t c = rw (at_kind c.args.depth c.args.img.now c.args.at c.kind.result sLet c.if-depth-eq0.false c.kind.ensures.0 (ap stmt_kind_of c.in-32.is)) at c.requires
 
 pub gen_stmt-gen_constrain-requires : goal.gen_stmt-gen_constrain-requires
 unfolding stmt_kind_of pick
-gen_stmt-gen_constrain-requires t c = rw (at_kind c.args.depth c.args.img.now c.args.at c.kind-k.result sConstrain c.if-depth-eq0.false c.kind-k.ensures.0 (ap stmt_kind_of c.in-33.is)) at c.requires
+gen_stmt-gen_constrain-requires t c = rw (at_kind c.args.depth c.args.img.now c.args.at c.kind.result sConstrain c.if-depth-eq0.false c.kind.ensures.0 (ap stmt_kind_of c.in-33.is)) at c.requires
 
 pub gen_stmt-gen_assign-requires : goal.gen_stmt-gen_assign-requires
 unfolding stmt_kind_of pick
-gen_stmt-gen_assign-requires t c = rw (at_kind c.args.depth c.args.img.now c.args.at c.kind-k.result sAssign c.if-depth-eq0.false c.kind-k.ensures.0 (ap stmt_kind_of c.in-34.is)) at c.requires
+gen_stmt-gen_assign-requires t c = rw (at_kind c.args.depth c.args.img.now c.args.at c.kind.result sAssign c.if-depth-eq0.false c.kind.ensures.0 (ap stmt_kind_of c.in-34.is)) at c.requires
 
 pub gen_stmt-gen_storage_write-requires : goal.gen_stmt-gen_storage_write-requires
 unfolding stmt_kind_of pick
-gen_stmt-gen_storage_write-requires t c = rw (at_kind c.args.depth c.args.img.now c.args.at c.kind-k.result sStorage c.if-depth-eq0.false c.kind-k.ensures.0 (ap stmt_kind_of c.in-35.is)) at c.requires
+gen_stmt-gen_storage_write-requires t c = rw (at_kind c.args.depth c.args.img.now c.args.at c.kind.result sStorage c.if-depth-eq0.false c.kind.ensures.0 (ap stmt_kind_of c.in-35.is)) at c.requires
 
 pub gen_stmt-gen_mapping_write-requires : goal.gen_stmt-gen_mapping_write-requires
 unfolding stmt_kind_of pick
-gen_stmt-gen_mapping_write-requires t c = rw (at_kind c.args.depth c.args.img.now c.args.at c.kind-k.result sMapping c.if-depth-eq0.false c.kind-k.ensures.0 (ap stmt_kind_of c.in-36.is)) at c.requires
+gen_stmt-gen_mapping_write-requires t c = rw (at_kind c.args.depth c.args.img.now c.args.at c.kind.result sMapping c.if-depth-eq0.false c.kind.ensures.0 (ap stmt_kind_of c.in-36.is)) at c.requires
 
 pub gen_stmt-gen_if-requires : goal.gen_stmt-gen_if-requires
 unfolding stmt_kind_of pick
-gen_stmt-gen_if-requires t c = (omega (arith, c.if-depth-eq0.false), rw (at_kind c.args.depth c.args.img.now c.args.at c.kind-k.result sIf c.if-depth-eq0.false c.kind-k.ensures.0 (ap stmt_kind_of c.in-37.is)) at c.requires)
+gen_stmt-gen_if-requires t c = (omega (arith, c.if-depth-eq0.false), rw (at_kind c.args.depth c.args.img.now c.args.at c.kind.result sIf c.if-depth-eq0.false c.kind.ensures.0 (ap stmt_kind_of c.in-37.is)) at c.requires)
 
 pub gen_stmt-gen_while-requires : goal.gen_stmt-gen_while-requires
 unfolding stmt_kind_of pick
-gen_stmt-gen_while-requires t c = (omega (arith, c.if-depth-eq0.false), rw (at_kind c.args.depth c.args.img.now c.args.at c.kind-k.result sWhile c.if-depth-eq0.false c.kind-k.ensures.0 (ap stmt_kind_of c.in-38.is)) at c.requires)
+gen_stmt-gen_while-requires t c = (omega (arith, c.if-depth-eq0.false), rw (at_kind c.args.depth c.args.img.now c.args.at c.kind.result sWhile c.if-depth-eq0.false c.kind.ensures.0 (ap stmt_kind_of c.in-38.is)) at c.requires)
 
 pub gen_stmt-gen_for-requires : goal.gen_stmt-gen_for-requires
 unfolding stmt_kind_of pick
-gen_stmt-gen_for-requires t c = (omega (arith, c.if-depth-eq0.false), rw (at_kind c.args.depth c.args.img.now c.args.at c.kind-k.result sFor c.if-depth-eq0.false c.kind-k.ensures.0 (ap stmt_kind_of c.in-39.is)) at c.requires)
+gen_stmt-gen_for-requires t c = (omega (arith, c.if-depth-eq0.false), rw (at_kind c.args.depth c.args.img.now c.args.at c.kind.result sFor c.if-depth-eq0.false c.kind.ensures.0 (ap stmt_kind_of c.in-39.is)) at c.requires)
 
 pub gen_stmt-gen_return-requires : goal.gen_stmt-gen_return-requires
 unfolding stmt_kind_of pick
-gen_stmt-gen_return-requires t c = rw (at_kind c.args.depth c.args.img.now c.args.at c.kind-k.result sReturn c.if-depth-eq0.false c.kind-k.ensures.0 (ap stmt_kind_of c.in-40.is)) at c.requires
+gen_stmt-gen_return-requires t c = rw (at_kind c.args.depth c.args.img.now c.args.at c.kind.result sReturn c.if-depth-eq0.false c.kind.ensures.0 (ap stmt_kind_of c.in-40.is)) at c.requires
 
 pub gen_stmt-gen_emit-requires : goal.gen_stmt-gen_emit-requires
 unfolding stmt_kind_of pick
-gen_stmt-gen_emit-requires t c = rw (at_kind c.args.depth c.args.img.now c.args.at c.kind-k.result sEmit c.if-depth-eq0.false c.kind-k.ensures.0 (ap stmt_kind_of c.in-41.is)) at c.requires
+gen_stmt-gen_emit-requires t c = rw (at_kind c.args.depth c.args.img.now c.args.at c.kind.result sEmit c.if-depth-eq0.false c.kind.ensures.0 (ap stmt_kind_of c.in-41.is)) at c.requires
 
 pub gen_stmt-gen_just-requires : goal.gen_stmt-gen_just-requires
 unfolding stmt_kind_of pick
-gen_stmt-gen_just-requires t c = rw (at_kind c.args.depth c.args.img.now c.args.at c.kind-k.result sExpr c.if-depth-eq0.false c.kind-k.ensures.0 (ap stmt_kind_of c.in-42.is)) at c.requires
+gen_stmt-gen_just-requires t c = rw (at_kind c.args.depth c.args.img.now c.args.at c.kind.result sExpr c.if-depth-eq0.false c.kind.ensures.0 (ap stmt_kind_of c.in-42.is)) at c.requires
 
 pub gen_stmt-returns-in-32 : goal.gen_stmt-returns-in-32
 unfolding stmt_kind_of pick
-gen_stmt-returns-in-32 t c = rw (at_kind c.args.depth c.args.img.now c.args.at c.kind-k.result sLet c.if-depth-eq0.false c.kind-k.ensures.0 (ap stmt_kind_of c.in-32.is)) c.gen_let.ensures
+gen_stmt-returns-in-32 t c = rw (at_kind c.args.depth c.args.img.now c.args.at c.kind.result sLet c.if-depth-eq0.false c.kind.ensures.0 (ap stmt_kind_of c.in-32.is)) c.gen_let.ensures
 
 pub gen_stmt-returns-in-33 : goal.gen_stmt-returns-in-33
 unfolding stmt_kind_of pick
-gen_stmt-returns-in-33 t c = rw (at_kind c.args.depth c.args.img.now c.args.at c.kind-k.result sConstrain c.if-depth-eq0.false c.kind-k.ensures.0 (ap stmt_kind_of c.in-33.is)) c.gen_constrain.ensures
+gen_stmt-returns-in-33 t c = rw (at_kind c.args.depth c.args.img.now c.args.at c.kind.result sConstrain c.if-depth-eq0.false c.kind.ensures.0 (ap stmt_kind_of c.in-33.is)) c.gen_constrain.ensures
 
 pub gen_stmt-returns-in-34 : goal.gen_stmt-returns-in-34
 unfolding stmt_kind_of pick
-gen_stmt-returns-in-34 t c = rw (at_kind c.args.depth c.args.img.now c.args.at c.kind-k.result sAssign c.if-depth-eq0.false c.kind-k.ensures.0 (ap stmt_kind_of c.in-34.is)) c.gen_assign.ensures
+gen_stmt-returns-in-34 t c = rw (at_kind c.args.depth c.args.img.now c.args.at c.kind.result sAssign c.if-depth-eq0.false c.kind.ensures.0 (ap stmt_kind_of c.in-34.is)) c.gen_assign.ensures
 
 pub gen_stmt-returns-in-35 : goal.gen_stmt-returns-in-35
 unfolding stmt_kind_of pick
-gen_stmt-returns-in-35 t c = rw (at_kind c.args.depth c.args.img.now c.args.at c.kind-k.result sStorage c.if-depth-eq0.false c.kind-k.ensures.0 (ap stmt_kind_of c.in-35.is)) c.gen_storage_write.ensures
+gen_stmt-returns-in-35 t c = rw (at_kind c.args.depth c.args.img.now c.args.at c.kind.result sStorage c.if-depth-eq0.false c.kind.ensures.0 (ap stmt_kind_of c.in-35.is)) c.gen_storage_write.ensures
 
 pub gen_stmt-returns-in-36 : goal.gen_stmt-returns-in-36
 unfolding stmt_kind_of pick
-gen_stmt-returns-in-36 t c = rw (at_kind c.args.depth c.args.img.now c.args.at c.kind-k.result sMapping c.if-depth-eq0.false c.kind-k.ensures.0 (ap stmt_kind_of c.in-36.is)) c.gen_mapping_write.ensures
+gen_stmt-returns-in-36 t c = rw (at_kind c.args.depth c.args.img.now c.args.at c.kind.result sMapping c.if-depth-eq0.false c.kind.ensures.0 (ap stmt_kind_of c.in-36.is)) c.gen_mapping_write.ensures
 
 pub gen_stmt-returns-in-37 : goal.gen_stmt-returns-in-37
 unfolding stmt_kind_of pick
-gen_stmt-returns-in-37 t c = rw (at_kind c.args.depth c.args.img.now c.args.at c.kind-k.result sIf c.if-depth-eq0.false c.kind-k.ensures.0 (ap stmt_kind_of c.in-37.is)) c.gen_if.ensures
+gen_stmt-returns-in-37 t c = rw (at_kind c.args.depth c.args.img.now c.args.at c.kind.result sIf c.if-depth-eq0.false c.kind.ensures.0 (ap stmt_kind_of c.in-37.is)) c.gen_if.ensures
 
 pub gen_stmt-returns-in-38 : goal.gen_stmt-returns-in-38
 unfolding stmt_kind_of pick
-gen_stmt-returns-in-38 t c = rw (at_kind c.args.depth c.args.img.now c.args.at c.kind-k.result sWhile c.if-depth-eq0.false c.kind-k.ensures.0 (ap stmt_kind_of c.in-38.is)) c.gen_while.ensures
+gen_stmt-returns-in-38 t c = rw (at_kind c.args.depth c.args.img.now c.args.at c.kind.result sWhile c.if-depth-eq0.false c.kind.ensures.0 (ap stmt_kind_of c.in-38.is)) c.gen_while.ensures
 
 pub gen_stmt-returns-in-39 : goal.gen_stmt-returns-in-39
 unfolding stmt_kind_of pick
-gen_stmt-returns-in-39 t c = rw (at_kind c.args.depth c.args.img.now c.args.at c.kind-k.result sFor c.if-depth-eq0.false c.kind-k.ensures.0 (ap stmt_kind_of c.in-39.is)) c.gen_for.ensures
+gen_stmt-returns-in-39 t c = rw (at_kind c.args.depth c.args.img.now c.args.at c.kind.result sFor c.if-depth-eq0.false c.kind.ensures.0 (ap stmt_kind_of c.in-39.is)) c.gen_for.ensures
 
 pub gen_stmt-returns-in-40 : goal.gen_stmt-returns-in-40
 unfolding stmt_kind_of pick
-gen_stmt-returns-in-40 t c = rw (at_kind c.args.depth c.args.img.now c.args.at c.kind-k.result sReturn c.if-depth-eq0.false c.kind-k.ensures.0 (ap stmt_kind_of c.in-40.is)) c.gen_return.ensures
+gen_stmt-returns-in-40 t c = rw (at_kind c.args.depth c.args.img.now c.args.at c.kind.result sReturn c.if-depth-eq0.false c.kind.ensures.0 (ap stmt_kind_of c.in-40.is)) c.gen_return.ensures
 
 pub gen_stmt-returns-in-41 : goal.gen_stmt-returns-in-41
 unfolding stmt_kind_of pick
-gen_stmt-returns-in-41 t c = rw (at_kind c.args.depth c.args.img.now c.args.at c.kind-k.result sEmit c.if-depth-eq0.false c.kind-k.ensures.0 (ap stmt_kind_of c.in-41.is)) c.gen_emit.ensures
+gen_stmt-returns-in-41 t c = rw (at_kind c.args.depth c.args.img.now c.args.at c.kind.result sEmit c.if-depth-eq0.false c.kind.ensures.0 (ap stmt_kind_of c.in-41.is)) c.gen_emit.ensures
 
 pub gen_stmt-returns-in-42 : goal.gen_stmt-returns-in-42
 unfolding stmt_kind_of pick
-gen_stmt-returns-in-42 t c = rw (at_kind c.args.depth c.args.img.now c.args.at c.kind-k.result sExpr c.if-depth-eq0.false c.kind-k.ensures.0 (ap stmt_kind_of c.in-42.is)) c.gen_just.ensures
+gen_stmt-returns-in-42 t c = rw (at_kind c.args.depth c.args.img.now c.args.at c.kind.result sExpr c.if-depth-eq0.false c.kind.ensures.0 (ap stmt_kind_of c.in-42.is)) c.gen_just.ensures
 
 pub gen_stmt-returns-in_default : goal.gen_stmt-returns-in_default
 unfolding steps.gen_stmt_lem stmt_as
-gen_stmt-returns-in_default t c = rw (at_kind c.args.depth c.args.img.now c.args.at c.kind-k.result sOther c.if-depth-eq0.false c.kind-k.ensures.0 (other c.kind-k.result c.in_default.in_default-own.rest.0.0.0.0.0.0.0.0.0.0.1 c.in_default.in_default-own.rest.0.0.0.0.0.0.0.0.0.1 c.in_default.in_default-own.rest.0.0.0.0.0.0.0.0.1 c.in_default.in_default-own.rest.0.0.0.0.0.0.0.1 c.in_default.in_default-own.rest.0.0.0.0.0.0.1 c.in_default.in_default-own.rest.0.0.0.0.0.1 c.in_default.in_default-own.rest.0.0.0.0.1 c.in_default.in_default-own.rest.0.0.0.1 c.in_default.in_default-own.rest.0.0.1 c.in_default.in_default-own.rest.0.1 c.in_default.in_default-own.rest.1)) (record { ran = still (raw _) refl refl; frame = idle _ _ })
+gen_stmt-returns-in_default t c = rw (at_kind c.args.depth c.args.img.now c.args.at c.kind.result sOther c.if-depth-eq0.false c.kind.ensures.0 (other c.kind.result c.in_default.in_default-own.rest.0.0.0.0.0.0.0.0.0.0.1 c.in_default.in_default-own.rest.0.0.0.0.0.0.0.0.0.1 c.in_default.in_default-own.rest.0.0.0.0.0.0.0.0.1 c.in_default.in_default-own.rest.0.0.0.0.0.0.0.1 c.in_default.in_default-own.rest.0.0.0.0.0.0.1 c.in_default.in_default-own.rest.0.0.0.0.0.1 c.in_default.in_default-own.rest.0.0.0.0.1 c.in_default.in_default-own.rest.0.0.0.1 c.in_default.in_default-own.rest.0.0.1 c.in_default.in_default-own.rest.0.1 c.in_default.in_default-own.rest.1)) (record { ran = still (raw _) refl refl; frame = idle _ _ })
 
 pub gen_stmts-loop-p-init : goal.gen_stmts-loop-p-init
 gen_stmts-loop-p-init t c = begins _ _ _ _ _ _ _ _

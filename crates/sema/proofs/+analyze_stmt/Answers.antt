@@ -1,4 +1,5 @@
--- +analyze_else_analyze_for_analyze_if_analyze_list_analyze_loop_analyze_stmt_analyze_while meets its contract.
+-- +analyze_stmt meets its contract.
+use Rattle.lookup.specs.Results.{handed_on}
 use Rattle.rules.specs.Meant.{of_stmt, of_stmts}
 use Prim.Native.Nat.{◌-◌}
 use Rattle.bounds.specs.Sizes.{vars, vars-stmts}
@@ -12,7 +13,7 @@ use Rattle.sema.proofs.Trees.{else_not, else_there, stmt_kind, stmt_zero, stmts_
 use Rattle.sema.specs.Steps.{in_loop}
 use mathlib.Core.Path.{◌∙◌, ap, refl, sym}
 use native.Mathlib.Omega.{arith}
-use Rattle.sema.proofs.+analyze_else_analyze_for_analyze_if_analyze_list_analyze_loop_analyze_stmt_analyze_while.Goals as goal
+use Rattle.sema.proofs.+analyze_stmt.Goals as goal
 
 pub analyze_else-analyze_list-requires : goal.analyze_else-analyze_list-requires
 analyze_else-analyze_list-requires t c = (omega arith, (c.requires.0, rw (else_there (stmt_at_lem c.args.d c.args.img.now) c.args.img.now c.args.at c.args.end c.if-at-end.true) at c.requires.1))
@@ -24,47 +25,47 @@ pub analyze_else-returns-else-at-end : goal.analyze_else-returns-else-at-end
 unfolding stmts of_stmts vars-stmts
 analyze_else-returns-else-at-end t c = rw (else_not (stmt_at_lem c.args.d c.args.img.now) c.args.img.now c.args.at c.args.end c.if-at-end.false) (still_ok refl)
 
-pub analyze_for-analyze_expr-t-requires : goal.analyze_for-analyze_expr-t-requires
-analyze_for-analyze_expr-t-requires t c = c.requires.0
+pub analyze_for-analyze_expr-requires : goal.analyze_for-analyze_expr-requires
+analyze_for-analyze_expr-requires t c = c.requires.0
 
-pub analyze_for-analyze_expr-u-requires : goal.analyze_for-analyze_expr-u-requires
-analyze_for-analyze_expr-u-requires t c = c.requires.0
+pub analyze_for-analyze_expr-requires-2 : goal.analyze_for-analyze_expr-requires-2
+analyze_for-analyze_expr-requires-2 t c = c.requires.0
 
 pub analyze_for-analyze_loop-requires : goal.analyze_for-analyze_loop-requires
 analyze_for-analyze_loop-requires t c = (omega arith, (c.requires.0, rw (c.past.ensures.0, c.past-to.ensures.0, c.past-from.ensures.0, c.body-x.ensures.0) (omega (arith, vars_for (expr_at c.args.d c.args.img.now) (stmt_at_lem c.args.d c.args.img.now) c.args.img.now c.args.at, c.requires.1))))
 
-pub analyze_for-returns-in-Is-u : goal.analyze_for-returns-in-Is-u
+pub analyze_for-returns : goal.analyze_for-returns
 unfolding stmt of_stmt stmt_as vars typed_of in_loop
-analyze_for-returns-in-Is-u t c = first_ok _ _ (sym (ap (typed_of c.args.img.now) c.in-Is.is) ∙ rw (c.past-from.ensures.0, c.body-x.ensures.0) at c.analyze_expr-t.ensures.0) ((rw (c.past-from.ensures.0, c.body-x.ensures.0) at c.analyze_expr-t.ensures.1).all _ (ap (typed_of c.args.img.now) c.in-Is.is)) (first_ok _ _ (sym (ap (typed_of c.args.img.now) c.in-Is-u.is) ∙ rw (c.past-to.ensures.0, c.past-from.ensures.0, c.body-x.ensures.0) at c.analyze_expr-u.ensures.0) ((rw (c.past-to.ensures.0, c.past-from.ensures.0, c.body-x.ensures.0) at c.analyze_expr-u.ensures.1).all _ (ap (typed_of c.args.img.now) c.in-Is-u.is)) (rw (c.past.ensures.0, c.past-to.ensures.0, c.past-from.ensures.0, c.body-x.ensures.0) at c.analyze_loop.ensures))
+analyze_for-returns t c = first_ok _ _ (rw (c.past-from.ensures.0, c.body-x.ensures.0) at c.in_ok-analyze_expr.ensures.0) ((rw (c.past-from.ensures.0, c.body-x.ensures.0) at c.in_ok-analyze_expr.ensures.1).all _ refl) (first_ok _ _ (rw (c.past-to.ensures.0, c.past-from.ensures.0, c.body-x.ensures.0) at c.in_ok-analyze_expr-2.ensures.0) ((rw (c.past-to.ensures.0, c.past-from.ensures.0, c.body-x.ensures.0) at c.in_ok-analyze_expr-2.ensures.1).all _ refl) (rw (c.past.ensures.0, c.past-to.ensures.0, c.past-from.ensures.0, c.body-x.ensures.0) at c.analyze_loop.ensures))
 
-pub analyze_for-returns-in-Refused-u : goal.analyze_for-returns-in-Refused-u
+pub analyze_for-returns-in_err-analyze_expr-2 : goal.analyze_for-returns-in_err-analyze_expr-2
 unfolding stmt of_stmt stmt_as vars typed_of
-analyze_for-returns-in-Refused-u t c = first_ok _ _ (sym (ap (typed_of c.args.img.now) c.in-Is.is) ∙ rw (c.past-from.ensures.0, c.body-x.ensures.0) at c.analyze_expr-t.ensures.0) ((rw (c.past-from.ensures.0, c.body-x.ensures.0) at c.analyze_expr-t.ensures.1).all _ (ap (typed_of c.args.img.now) c.in-Is.is)) (first_bad _ (sym (ap (typed_of c.args.img.now) c.in-Refused-u.is) ∙ rw (c.past-to.ensures.0, c.past-from.ensures.0, c.body-x.ensures.0) at c.analyze_expr-u.ensures.0))
+analyze_for-returns-in_err-analyze_expr-2 t c = rw (handed_on _ _ c.from_residual-in_err-analyze_expr-2.ensures.1) (first_ok _ _ (rw (c.past-from.ensures.0, c.body-x.ensures.0) at c.in_ok-analyze_expr.ensures.0) ((rw (c.past-from.ensures.0, c.body-x.ensures.0) at c.in_ok-analyze_expr.ensures.1).all _ refl) (first_bad _ (rw (c.past-to.ensures.0, c.past-from.ensures.0, c.body-x.ensures.0) at c.in_err-analyze_expr-2.ensures.0)))
 
-pub analyze_for-returns-in-Refused : goal.analyze_for-returns-in-Refused
+pub analyze_for-returns-in_err-analyze_expr : goal.analyze_for-returns-in_err-analyze_expr
 unfolding stmt of_stmt stmt_as vars typed_of
-analyze_for-returns-in-Refused t c = first_bad _ (sym (ap (typed_of c.args.img.now) c.in-Refused.is) ∙ rw (c.past-from.ensures.0, c.body-x.ensures.0) at c.analyze_expr-t.ensures.0)
+analyze_for-returns-in_err-analyze_expr t c = rw (handed_on _ _ c.from_residual.ensures.1) (first_bad _ (rw (c.past-from.ensures.0, c.body-x.ensures.0) at c.in_err-analyze_expr.ensures.0))
 
-pub analyze_if-analyze_expr-t-requires : goal.analyze_if-analyze_expr-t-requires
-analyze_if-analyze_expr-t-requires t c = c.requires.0
+pub analyze_if-analyze_expr-requires : goal.analyze_if-analyze_expr-requires
+analyze_if-analyze_expr-requires t c = c.requires.0
 
-pub analyze_if-analyze_list-a-requires : goal.analyze_if-analyze_list-a-requires
-analyze_if-analyze_list-a-requires t c = (omega arith, (c.requires.0, rw (c.past-then.ensures.0, c.body-test.ensures.0) (omega (arith, vars_if (expr_at c.args.d c.args.img.now) (stmt_at_lem c.args.d c.args.img.now) c.args.img.now c.args.at, c.requires.1))))
+pub analyze_if-analyze_list-requires : goal.analyze_if-analyze_list-requires
+analyze_if-analyze_list-requires t c = (omega arith, (c.requires.0, rw (c.past-then.ensures.0, c.body-test.ensures.0) (omega (arith, vars_if (expr_at c.args.d c.args.img.now) (stmt_at_lem c.args.d c.args.img.now) c.args.img.now c.args.at, c.requires.1))))
 
 pub analyze_if-analyze_else-requires : goal.analyze_if-analyze_else-requires
-analyze_if-analyze_else-requires t c = (omega (arith, c.requires.0), (c.requires.0, rw (c.past-end.ensures.0, c.past-other.ensures.0, c.past-then.ensures.0, c.body-test.ensures.0) (omega (arith, vars_if (expr_at c.args.d c.args.img.now) (stmt_at_lem c.args.d c.args.img.now) c.args.img.now c.args.at, c.requires.1, (in_top (rw (c.past-then.ensures.0, c.body-test.ensures.0) at c.analyze_list-a.ensures) c.in-Top.is).1, c.analyze_list-a.ensures.size))))
+analyze_if-analyze_else-requires t c = (omega (arith, c.requires.0), (c.requires.0, rw (c.past-end.ensures.0, c.past-other.ensures.0, c.past-then.ensures.0, c.body-test.ensures.0) (omega (arith, vars_if (expr_at c.args.d c.args.img.now) (stmt_at_lem c.args.d c.args.img.now) c.args.img.now c.args.at, c.requires.1, (in_top (rw (c.past-then.ensures.0, c.body-test.ensures.0) at c.in_ok-k.ensures) refl).1, c.in_ok-k.ensures.size))))
 
-pub analyze_if-returns-in-Top : goal.analyze_if-returns-in-Top
+pub analyze_if-returns : goal.analyze_if-returns
 unfolding stmt of_stmt stmt_as vars typed_of
-analyze_if-returns-in-Top t c = first_ok _ _ (sym (ap (typed_of c.args.img.now) c.in-Is.is) ∙ rw c.body-test.ensures.0 at c.analyze_expr-t.ensures.0) ((rw c.body-test.ensures.0 at c.analyze_expr-t.ensures.1).all _ (ap (typed_of c.args.img.now) c.in-Is.is)) (step_then (rw (c.past-then.ensures.0, c.body-test.ensures.0) at c.analyze_list-a.ensures) _ _ c.in-Top.is (rw (c.past-end.ensures.0, c.past-other.ensures.0, c.past-then.ensures.0, c.body-test.ensures.0) at c.analyze_else.ensures))
+analyze_if-returns t c = first_ok _ _ (rw c.body-test.ensures.0 at c.in_ok-analyze_expr.ensures.0) ((rw c.body-test.ensures.0 at c.in_ok-analyze_expr.ensures.1).all _ refl) (step_then (rw (c.past-then.ensures.0, c.body-test.ensures.0) at c.in_ok-k.ensures) _ _ refl (rw (c.past-end.ensures.0, c.past-other.ensures.0, c.past-then.ensures.0, c.body-test.ensures.0) at c.analyze_else.ensures))
 
-pub analyze_if-returns-in-Refused-a : goal.analyze_if-returns-in-Refused-a
+pub analyze_if-returns-in_err-k : goal.analyze_if-returns-in_err-k
 unfolding stmt of_stmt stmt_as vars typed_of
-analyze_if-returns-in-Refused-a t c = first_ok _ _ (sym (ap (typed_of c.args.img.now) c.in-Is.is) ∙ rw c.body-test.ensures.0 at c.analyze_expr-t.ensures.0) ((rw c.body-test.ensures.0 at c.analyze_expr-t.ensures.1).all _ (ap (typed_of c.args.img.now) c.in-Is.is)) (step_bad (rw (c.past-then.ensures.0, c.body-test.ensures.0) at c.analyze_list-a.ensures) _ c.in-Refused-a.is)
+analyze_if-returns-in_err-k t c = rw (handed_on _ _ c.from_residual-in_err-k.ensures.1) (first_ok _ _ (rw c.body-test.ensures.0 at c.in_ok-analyze_expr.ensures.0) ((rw c.body-test.ensures.0 at c.in_ok-analyze_expr.ensures.1).all _ refl) (step_bad (rw (c.past-then.ensures.0, c.body-test.ensures.0) at c.in_err-k.ensures) _ refl))
 
-pub analyze_if-returns-in-Refused : goal.analyze_if-returns-in-Refused
+pub analyze_if-returns-in_err-analyze_expr : goal.analyze_if-returns-in_err-analyze_expr
 unfolding stmt of_stmt stmt_as vars typed_of
-analyze_if-returns-in-Refused t c = first_bad _ (sym (ap (typed_of c.args.img.now) c.in-Refused.is) ∙ rw c.body-test.ensures.0 at c.analyze_expr-t.ensures.0)
+analyze_if-returns-in_err-analyze_expr t c = rw (handed_on _ _ c.from_residual.ensures.1) (first_bad _ (rw c.body-test.ensures.0 at c.in_err-analyze_expr.ensures.0))
 
 pub analyze_list-loop-k-init : goal.analyze_list-loop-k-init
 analyze_list-loop-k-init t c = (rw (c.body-p.ensures.0, c.past-end.ensures.0) c.requires.1, (refl, λ e2 M r s. rw (c.body-p.ensures.0, c.past-end.ensures.0) at s))
@@ -73,16 +74,16 @@ pub analyze_list-returns-then-end-p : goal.analyze_list-returns-then-end-p
 unfolding stmts of_stmts vars-stmts
 analyze_list-returns-then-end-p t c = c.loop-k.invariant.1.1 _ _ _ (rw (stmts_end (stmt_at_lem c.args.d c.args.img.now) c.args.img.now c.loop-k.k c.loop-k.p c.past-end.result c.if-end-p.true) (still_ok refl))
 
-pub analyze_list-analyze_stmt-a-requires : goal.analyze_list-analyze_stmt-a-requires
-analyze_list-analyze_stmt-a-requires t c = (omega arith, (c.requires.0, omega (arith, vars_more (stmt_at_lem c.args.d c.args.img.now) c.args.img.now c.loop-k.k c.loop-k.p c.past-end.result c.loop-k-test.true c.if-end-p.false, c.loop-k.invariant.0)))
+pub analyze_list-analyze_stmt-requires : goal.analyze_list-analyze_stmt-requires
+analyze_list-analyze_stmt-requires t c = (omega arith, (c.requires.0, omega (arith, vars_more (stmt_at_lem c.args.d c.args.img.now) c.args.img.now c.loop-k.k c.loop-k.p c.past-end.result c.loop-k-test.true c.if-end-p.false, c.loop-k.invariant.0)))
 
 pub analyze_list-loop-k-preserved : goal.analyze_list-loop-k-preserved
 unfolding stmts of_stmts vars-stmts
-analyze_list-loop-k-preserved t c = (rw c.past-p.ensures.0 (omega (arith, vars_more (stmt_at_lem c.args.d c.args.img.now) c.args.img.now c.loop-k.k c.loop-k.p c.past-end.result c.loop-k-test.true c.if-end-p.false, c.loop-k.invariant.0, (in_top c.analyze_stmt-a.ensures c.in-Top.is).1, c.analyze_stmt-a.ensures.size)), (c.analyze_stmt-a.ensures.size ∙ c.loop-k.invariant.1.0, λ e2 M r s. c.loop-k.invariant.1.1 e2 M r (rw (stmts_more (stmt_at_lem c.args.d c.args.img.now) c.args.img.now c.loop-k.k c.loop-k.p c.past-end.result c.loop-k-test.true c.if-end-p.false) (step_then c.analyze_stmt-a.ensures _ _ c.in-Top.is (rw c.past-p.ensures.0 at s)))))
+analyze_list-loop-k-preserved t c = (rw c.past-p.ensures.0 (omega (arith, vars_more (stmt_at_lem c.args.d c.args.img.now) c.args.img.now c.loop-k.k c.loop-k.p c.past-end.result c.loop-k-test.true c.if-end-p.false, c.loop-k.invariant.0, (in_top c.in_ok-t.ensures refl).1, c.in_ok-t.ensures.size)), (c.in_ok-t.ensures.size ∙ c.loop-k.invariant.1.0, λ e2 M r s. c.loop-k.invariant.1.1 e2 M r (rw (stmts_more (stmt_at_lem c.args.d c.args.img.now) c.args.img.now c.loop-k.k c.loop-k.p c.past-end.result c.loop-k-test.true c.if-end-p.false) (step_then c.in_ok-t.ensures _ _ refl (rw c.past-p.ensures.0 at s)))))
 
-pub analyze_list-returns-in-Refused : goal.analyze_list-returns-in-Refused
+pub analyze_list-returns-in_err-t : goal.analyze_list-returns-in_err-t
 unfolding stmts of_stmts vars-stmts
-analyze_list-returns-in-Refused t c = c.loop-k.invariant.1.1 _ _ _ (rw (stmts_more (stmt_at_lem c.args.d c.args.img.now) c.args.img.now c.loop-k.k c.loop-k.p c.past-end.result c.loop-k-test.true c.if-end-p.false) (step_bad c.analyze_stmt-a.ensures _ c.in-Refused.is))
+analyze_list-returns-in_err-t t c = rw (handed_on _ _ c.from_residual.ensures.1) (c.loop-k.invariant.1.1 _ _ _ (rw (stmts_more (stmt_at_lem c.args.d c.args.img.now) c.args.img.now c.loop-k.k c.loop-k.p c.past-end.result c.loop-k-test.true c.if-end-p.false) (step_bad c.in_err-t.ensures _ refl)))
 
 pub analyze_list-returns : goal.analyze_list-returns
 unfolding stmts of_stmts vars-stmts
@@ -91,16 +92,16 @@ analyze_list-returns t c = c.loop-k.invariant.1.1 _ _ _ (rw (stmts_zero (stmt_at
 pub analyze_loop-push-inner-requires : goal.analyze_loop-push-inner-requires
 analyze_loop-push-inner-requires t c = (omega (arith, c.requires.1), c.requires.0.small)
 
-pub analyze_loop-analyze_list-a-requires : goal.analyze_loop-analyze_list-a-requires
-analyze_loop-analyze_list-a-requires t c = (omega arith, (c.requires.0, omega (arith, c.requires.1, c.push-inner.ensures.next, c.push-inner.ensures.size)))
+pub analyze_loop-analyze_list-requires : goal.analyze_loop-analyze_list-requires
+analyze_loop-analyze_list-requires t c = (omega arith, (c.requires.0, omega (arith, c.requires.1, c.push-inner.ensures.next, c.push-inner.ensures.size)))
 
-pub analyze_loop-returns-in-Top : goal.analyze_loop-returns-in-Top
+pub analyze_loop-returns : goal.analyze_loop-returns
 unfolding in_loop ty_of
-analyze_loop-returns-in-Top t c = for_done c.push-inner.ensures (rw (pushed_env c.push-inner.ensures) at c.analyze_list-a.ensures) c.in-Top.is
+analyze_loop-returns t c = for_done c.push-inner.ensures (rw (pushed_env c.push-inner.ensures) at c.in_ok-analyze_list.ensures) refl
 
-pub analyze_loop-returns-in-Refused : goal.analyze_loop-returns-in-Refused
+pub analyze_loop-returns-in_err-analyze_list : goal.analyze_loop-returns-in_err-analyze_list
 unfolding in_loop ty_of
-analyze_loop-returns-in-Refused t c = for_bad c.push-inner.ensures (rw (pushed_env c.push-inner.ensures) at c.analyze_list-a.ensures) c.in-Refused.is
+analyze_loop-returns-in_err-analyze_list t c = rw (handed_on _ _ c.from_residual.ensures.1) (for_bad c.push-inner.ensures (rw (pushed_env c.push-inner.ensures) at c.in_err-analyze_list.ensures) refl)
 
 pub analyze_stmt-returns-then-d-eq0 : goal.analyze_stmt-returns-then-d-eq0
 unfolding stmt of_stmt vars
@@ -144,16 +145,16 @@ analyze_stmt-returns-in-39 t c = rw (stmt_kind c.args.d c.args.img.now c.args.at
 pub analyze_stmt-returns-in_default : goal.analyze_stmt-returns-in_default
 analyze_stmt-returns-in_default t c = rw (stmt_kind c.args.d c.args.img.now c.args.at c.kind-k.result (stmt_kind_of c.kind-k.result) c.if-d-eq0.false c.kind-k.ensures.0 refl) c.analyze_simple.ensures
 
-pub analyze_while-analyze_expr-t-requires : goal.analyze_while-analyze_expr-t-requires
-analyze_while-analyze_expr-t-requires t c = c.requires.0
+pub analyze_while-analyze_expr-requires : goal.analyze_while-analyze_expr-requires
+analyze_while-analyze_expr-requires t c = c.requires.0
 
 pub analyze_while-analyze_list-requires : goal.analyze_while-analyze_list-requires
 analyze_while-analyze_list-requires t c = (omega arith, (c.requires.0, rw (c.past.ensures.0, c.body-test.ensures.0) (omega (arith, vars_while (expr_at c.args.d c.args.img.now) (stmt_at_lem c.args.d c.args.img.now) c.args.img.now c.args.at, c.requires.1))))
 
-pub analyze_while-returns-in-Is : goal.analyze_while-returns-in-Is
+pub analyze_while-returns : goal.analyze_while-returns
 unfolding stmt of_stmt stmt_as vars typed_of
-analyze_while-returns-in-Is t c = first_ok _ _ (sym (ap (typed_of c.args.img.now) c.in-Is.is) ∙ rw c.body-test.ensures.0 at c.analyze_expr-t.ensures.0) ((rw c.body-test.ensures.0 at c.analyze_expr-t.ensures.1).all _ (ap (typed_of c.args.img.now) c.in-Is.is)) (rw (c.past.ensures.0, c.body-test.ensures.0) at c.analyze_list.ensures)
+analyze_while-returns t c = first_ok _ _ (rw c.body-test.ensures.0 at c.in_ok-analyze_expr.ensures.0) ((rw c.body-test.ensures.0 at c.in_ok-analyze_expr.ensures.1).all _ refl) (rw (c.past.ensures.0, c.body-test.ensures.0) at c.analyze_list.ensures)
 
-pub analyze_while-returns-in-Refused : goal.analyze_while-returns-in-Refused
+pub analyze_while-returns-in_err-analyze_expr : goal.analyze_while-returns-in_err-analyze_expr
 unfolding stmt of_stmt stmt_as vars typed_of
-analyze_while-returns-in-Refused t c = first_bad _ (sym (ap (typed_of c.args.img.now) c.in-Refused.is) ∙ rw c.body-test.ensures.0 at c.analyze_expr-t.ensures.0)
+analyze_while-returns-in_err-analyze_expr t c = rw (handed_on _ _ c.from_residual.ensures.1) (first_bad _ (rw c.body-test.ensures.0 at c.in_err-analyze_expr.ensures.0))

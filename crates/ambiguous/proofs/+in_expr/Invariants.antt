@@ -4,7 +4,7 @@ use Prim.Native.Nat.{◌+◌, ◌*◌}
 use Rattle.rules.specs.Bytes.{inside, after}
 use Rattle.rules.specs.Read.{expr_at, exprs_from, inits_from, contract_at}
 use Rattle.rules.specs.Ambiguous.{in_exprs, in_inits_lem}
-use Rattle.ambiguous.proofs.+in_access_in_args_in_expr_in_inits_in_two.Given as goal
+use Rattle.ambiguous.proofs.+in_expr.Given as goal
 
 abbrev pub decreases-in_access : goal.decreases-in_access
 decreases-in_access l = 2 * l.d + 1

@@ -9,7 +9,7 @@ use Rattle.rules.specs.Meant.{of_exprs, of_inits}
 use Rattle.notes.specs.Notes.{written}
 use Rattle.typing.specs.Arguments.{behind, exprs_in, sum_args, inits_in}
 use lib.ListN.{drop}
-use Rattle.typing.proofs.+analyze_access_analyze_args_analyze_binary_analyze_call_analyze_expr_analyze_init_analyze_inits_analyze_literal_analyze_mapping.Given as goal
+use Rattle.typing.proofs.+analyze_expr.Given as goal
 
 abbrev pub decreases-analyze_access : goal.decreases-analyze_access
 decreases-analyze_access l = 4 * l.d + 3
@@ -39,7 +39,7 @@ abbrev pub decreases-analyze_mapping : goal.decreases-analyze_mapping
 decreases-analyze_mapping l = 4 * l.d + 3
 
 abbrev pub invariant-analyze_args-loop-i : goal.invariant-analyze_args-loop-i
-invariant-analyze_args-loop-i l = (written (contract_at l.img) l.initial.notes (of_exprs (contract_at l.img) (exprs_in l.left l.d l.img l.l) (env_of l.img l.env l.top)) ≡ written (contract_at l.img) l.notes (of_exprs (contract_at l.img) (exprs_from (l.left - l.i) (expr_at l.d l.img) l.img l.p l.end) (env_of l.img l.env l.top))) × ((l.i ≤ l.left) × ((due_of l.img l.due ≡ drop l.i (due_of l.img l.initial.due)) × (sum_args (contract_at l.img) (due_of l.img l.initial.due) 0 (exprs_in l.left l.d l.img l.l) (env_of l.img l.env l.top) ≡ (sum_args (contract_at l.img) (due_of l.img l.initial.due) l.i (exprs_from (l.left - l.i) (expr_at l.d l.img) l.img l.p l.end) (env_of l.img l.env l.top) >>= behind (misfit_of l.m)))))
+invariant-analyze_args-loop-i l = (written (contract_at l.img) l.initial.notes (of_exprs (contract_at l.img) (exprs_in l.left l.d l.img l.l) (env_of l.img l.env l.top)) ≡ written (contract_at l.img) l.notes (of_exprs (contract_at l.img) (exprs_from (l.left - l.i) (expr_at l.d l.img) l.img l.p l.end) (env_of l.img l.env l.top))) × ((l.i ≤ l.left) × ((due_of l.img l.due ≡ drop l.i (due_of l.img l.initial.due)) × (sum_args (contract_at l.img) (due_of l.img l.initial.due) 0 (exprs_in l.left l.d l.img l.l) (env_of l.img l.env l.top) ≡ (sum_args (contract_at l.img) (due_of l.img l.initial.due) l.i (exprs_from (l.left - l.i) (expr_at l.d l.img) l.img l.p l.end) (env_of l.img l.env l.top) >>= behind (misfit_of l.misfit)))))
 
 abbrev pub decreases-analyze_args-loop-i : goal.decreases-analyze_args-loop-i
 decreases-analyze_args-loop-i l = l.left - l.i

@@ -2,7 +2,7 @@
 use Prim.Native.Nat.{◌+◌, ◌*◌, ◌-◌}
 use Rattle.emit.specs.Sinks.{sinks}
 use Rattle.expr.proofs.Loops.{Gathering, args_from, inits_from_lem}
-use Rattle.expr.proofs.+gen_args_gen_binary_gen_call_gen_expr_gen_field_gen_inits_gen_list_gen_literal_gen_mapping_gen_merkle_gen_poseidon_gen_user.Given as goal
+use Rattle.expr.proofs.+gen_expr.Given as goal
 
 abbrev pub invariant-gen_args-loop-v : goal.invariant-gen_args-loop-v
 invariant-gen_args-loop-v l = Gathering l.img (sinks l.initial.code l.initial.bytes) l.initial.v.st (args_from l.img l.rules l.scope l.d l.e 0 l.first l.initial.v.st.next) (sinks l.code l.bytes) l.vals l.v (args_from l.img l.rules l.scope l.d l.e l.v.count l.p l.v.st.next)

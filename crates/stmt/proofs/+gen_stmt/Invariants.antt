@@ -3,7 +3,7 @@ use Prim.Native.Nat.{◌+◌, ◌*◌, ◌-◌}
 use Rattle.rules.specs.Read.{stmt_at_lem}
 use Rattle.emit.specs.Sinks.{sinks}
 use Rattle.stmt.proofs.Lists.{Loop}
-use Rattle.stmt.proofs.+gen_else_gen_for_gen_if_gen_loop_gen_stmt_gen_stmts_gen_while.Given as goal
+use Rattle.stmt.proofs.+gen_stmt.Given as goal
 
 abbrev pub invariant-gen_stmts-loop-p : goal.invariant-gen_stmts-loop-p
 invariant-gen_stmts-loop-p l = Loop l.rules (stmt_at_lem l.d l.img) l.img (sinks l.initial.code l.initial.bytes) l.initial.scope l.end l.initial.p l.initial.s (sinks l.code l.bytes) l.scope l.p l.s

@@ -4,26 +4,23 @@ use mathlib.Core.Path.{refl, sym, ap, ◌∙◌}
 use Rattle.rules.specs.Bytes.{pick, after}
 use Rattle.rules.specs.Read.{stmt_at_lem, stmt_as, stmt_kind_of, sIf, sWhile, sFor, third, contract_at}
 use Rattle.rules.specs.Ambiguous.{in_stmt_lem, in_stmts}
-use Rattle.ambiguous.specs.Spots.{spot_of}
 use Rattle.ambiguous.proofs.Trees.{stmt_zero, stmt_kind, else_there, else_not}
 use Rattle.ambiguous.proofs.Walk.{then_first, then_second, else_else, else_none, three, body_zero, body_end, body_here, body_next}
-use Rattle.ambiguous.proofs.+in_body_in_for_in_if_in_stmt_in_while_then_body.Goals as goal
+use Rattle.ambiguous.proofs.+in_stmt.Goals as goal
 
 pub in_body-loop-k-init : goal.in_body-loop-k-init
 in_body-loop-k-init t c = rw (c.body-p.ensures.0, c.past-end.ensures.0)
 
-pub in_body-returns-in-At : goal.in_body-returns-in-At
-in_body-returns-in-At t c = body_here (contract_at c.args.img.now) c.args.img.now (stmt_at_lem c.args.d c.args.img.now) c.loop-k.k c.loop-k.p c.past-end.result c.loop-k-test.true c.if-p-end.true c.in-At.is c.in_stmt-a.ensures ∙ sym c.loop-k.invariant
+pub in_body-returns-in-Some : goal.in_body-returns-in-Some
+in_body-returns-in-Some t c = body_here (contract_at c.args.img.now) c.args.img.now (stmt_at_lem c.args.d c.args.img.now) c.loop-k.k c.loop-k.p c.past-end.result c.loop-k-test.true c.if-p-end.true c.in-Some.ensures ∙ sym c.loop-k.invariant
 
 pub in_body-loop-k-preserved : goal.in_body-loop-k-preserved
-in_body-loop-k-preserved t c = c.loop-k.invariant ∙ rw c.past-p.ensures.0 (body_next (contract_at c.args.img.now) c.args.img.now (stmt_at_lem c.args.d c.args.img.now) c.loop-k.k c.loop-k.p c.past-end.result c.loop-k-test.true c.if-p-end.true c.in-Nowhere.is c.in_stmt-a.ensures)
+in_body-loop-k-preserved t c = c.loop-k.invariant ∙ rw c.past-p.ensures.0 (body_next (contract_at c.args.img.now) c.args.img.now (stmt_at_lem c.args.d c.args.img.now) c.loop-k.k c.loop-k.p c.past-end.result c.loop-k-test.true c.if-p-end.true c.in_default.is c.in_stmt.ensures)
 
 pub in_body-returns-else-p-end : goal.in_body-returns-else-p-end
-unfolding spot_of
 in_body-returns-else-p-end t c = body_end (contract_at c.args.img.now) c.args.img.now (stmt_at_lem c.args.d c.args.img.now) c.loop-k.k c.loop-k.p c.past-end.result c.if-p-end.false ∙ sym c.loop-k.invariant
 
 pub in_body-returns-after-loop-k : goal.in_body-returns-after-loop-k
-unfolding spot_of
 in_body-returns-after-loop-k t c = body_zero (contract_at c.args.img.now) c.args.img.now (stmt_at_lem c.args.d c.args.img.now) c.loop-k.k c.loop-k.p c.past-end.result c.loop-k-test.false ∙ sym c.loop-k.invariant
 
 pub in_for-returns : goal.in_for-returns
@@ -39,7 +36,7 @@ unfolding in_stmt_lem in_stmts stmt_as
 in_if-returns-else-other-past t c = rw (else_not (stmt_at_lem c.args.d c.args.img.now) c.args.img.now (third c.args.img.now c.args.at) (after c.args.img.now c.args.at) (c.past-other.ensures.0 ∙ ap (after c.args.img.now) (c.past-then.ensures.0 ∙ ap (after c.args.img.now) c.body-test.ensures.0)) c.past.ensures.0 c.if-other-past.false) (three _ _ (rw c.body-test.ensures.0 at c.in_expr-t.ensures) (rw (c.past-then.ensures.0, c.body-test.ensures.0) at c.then_body-a.ensures) (sym (else_none _)))
 
 pub in_stmt-returns-then-d-eq0 : goal.in_stmt-returns-then-d-eq0
-unfolding in_stmt_lem spot_of
+unfolding in_stmt_lem
 in_stmt-returns-then-d-eq0 t c = rw (stmt_zero c.args.d c.args.img.now c.args.at c.if-d-eq0.true)
 
 pub in_stmt-in_simple-requires : goal.in_stmt-in_simple-requires
@@ -64,8 +61,8 @@ pub in_while-returns : goal.in_while-returns
 unfolding in_stmt_lem stmt_as
 in_while-returns t c = rw (c.in_expr-t.ensures, c.past.ensures.0, c.body-test.ensures.0) at c.then_body.ensures
 
-pub then_body-returns-in-At : goal.then_body-returns-in-At
-then_body-returns-in-At t c = then_first _ c.in-At.is refl
+pub then_body-returns-in-Some : goal.then_body-returns-in-Some
+then_body-returns-in-Some t c = then_first _ (sym c.in-Some.is)
 
-pub then_body-returns-in-Nowhere : goal.then_body-returns-in-Nowhere
-then_body-returns-in-Nowhere t c = then_second _ c.in-Nowhere.is refl c.in_body.ensures
+pub then_body-returns-in-None : goal.then_body-returns-in-None
+then_body-returns-in-None t c = then_second _ c.in-None.is refl c.in_body.ensures

@@ -3,7 +3,7 @@ use mathlib.Core.Path.{◌≡◌}
 use Prim.Native.Nat.{◌+◌, ◌*◌}
 use Rattle.rules.specs.Read.{stmt_at_lem, stmts_from, body_at, contract_at}
 use Rattle.rules.specs.Ambiguous.{in_stmts}
-use Rattle.ambiguous.proofs.+in_body_in_for_in_if_in_stmt_in_while_then_body.Given as goal
+use Rattle.ambiguous.proofs.+in_stmt.Given as goal
 
 abbrev pub decreases-in_body : goal.decreases-in_body
 decreases-in_body l = 4 * l.d + 1
