@@ -1,15 +1,14 @@
 -- The table of keys and positions.
---     one_more     the cells set to 0
 --     starts, passes_by, free_slot, own_slot     the way to a key's slot
 --     put_there, was_there     a position noted
---     begin_fields, one_field, end_fields, end_count     the Fields of a struct
+--     begin_fields, one_field, end_fields     the Fields of a struct
 --     one_struct, agreed     the structs, and what comes of it
 -- Assumes nothing.
 use Rattle.std.specs.Prelude.{None, Some, Option}
 use mathlib.Core.Bool.{Bool, true, false}
 use mathlib.Core.List.{List, [], ◌∷◌, map}
 use mathlib.Core.Logic.{◌⊎◌, inl, inr}
-use mathlib.Core.Path.{◌≡◌, refl, sym, ap, ◌∙◌}
+use mathlib.Core.Path.{◌≡◌, refl, sym, ◌∙◌}
 use Prim.Native.Nat.{ℕ, zero, suc, ◌+◌, ◌-◌, ◌*◌, ◌%◌, ◌≤◌, ◌<◌}
 use native.Mathlib.Nat.{mod-lt}
 use native.Mathlib.Numerals.{add-one, sub-one}
@@ -18,10 +17,10 @@ use lib.Dec.{eqb}
 use lib.ListN.{length, get_or, set, length-set}
 use lib.Seq.{get_or-set_same, get_or-set_other}
 use borrow.Author.Tests.{eq-eqb, ne_eqb, eqb-true, eqb-false}
-use Rattle.rules.specs.Bytes.{pick, Name, eq_name, inside, after}
+use Rattle.rules.specs.Bytes.{pick, Name, eq_name}
 use Rattle.rules.specs.Tables.{last, first_index}
 use Rattle.rules.specs.Tree.{Field, Struct}
-use Rattle.rules.specs.Read.{second, places_from, name_in, field_at, fields_at, struct_at, contract_at}
+use Rattle.rules.specs.Read.{second, places_in, name_in, field_at, fields_at, struct_at, contract_at}
 use Rattle.rules.specs.Layout.{kept, layouts, with_position, positions}
 use Rattle.rules.specs.Ambiguous.{differs, apart}
 use Rattle.records.specs.Keys.{key_of}
@@ -29,7 +28,7 @@ use Rattle.records.specs.Names.{name_eq}
 use Rattle.tables.specs.Listed.{structs_in}
 use Rattle.ambiguous.specs.Spots.{unsure}
 use Rattle.ambiguous.specs.Slots.{look, looked, Extends, Slot, Noted, Held}
-use Rattle.fields.specs.Steps.{field_zero, field_end, field_here, field_next}
+use Rattle.fields.specs.Steps.{left_none, left_here, left_next}
 
 pub ext_refl : (t : List ℕ) → Extends t t
 ext_refl t = record { keys = λ h f. refl; values = λ h f. refl }
@@ -39,13 +38,6 @@ ext_trans a b = record {
   keys = λ h f. b.keys h (λ z. f (sym (a.values h f) ∙ z)) ∙ a.keys h f;
   values = λ h f. b.values h (λ z. f (sym (a.values h f) ∙ z)) ∙ a.values h f;
 }
-
-pub one_more : (t : List ℕ) (i : ℕ) → i < length t → ((j : ℕ) → j < i → get_or t j 0 ≡ 0) → (j : ℕ) → j < i + 1 → get_or (set t i 0) j 0 ≡ 0
-one_more t i room all j b = here (eqb j i) refl
-  where
-    here : (c : Bool) → eqb j i ≡ c → get_or (set t i 0) j 0 ≡ 0
-    here true q = rw (eqb-true j i q) (get_or-set_same t i 0 0 room)
-    here false q = get_or-set_other t i j 0 0 (eqb-false j i q) ∙ all j (omega (arith, eqb-false j i q))
 
 module _ (t : List ℕ) (key : ℕ) where
   look_hit : (k h : ℕ) → (k ≡ 0 → ⊥) → (get_or t (2 * h + 1) 0 ≡ 0 → ⊥) → get_or t (2 * h) 0 ≡ key → look t key k h ≡ get_or t (2 * h + 1) 0
@@ -148,49 +140,43 @@ module _ (t : List ℕ) (key n h : ℕ) (s : Slot t key h) where
     is = s.leads t (ext_refl t) (s.held f) f ∙ eqb-true _ _ e ∙ add-one n;
   }
 
--- The Fields of the List at l: each is noted, or among those from p on.
+-- The Fields of the List at l: each is noted, or among those at the places ps, the first of which is at position n.
 module _ (img : List ℕ) (l : ℕ) where
-  pub record Told (t : List ℕ) (n p e : ℕ) : Type 0 where
+  pub record Told (t : List ℕ) (n : ℕ) (ps : List ℕ) : Type 0 where
     pub each : (x : Name) (m : ℕ) → first_index (λ (f : Field). f.name) 0 x (fields_at 64 img l) ≡ Some m
-        → (looked t (key_of x) ≡ suc m) ⊎ (first_index (λ (f : Field). f.name) n x (map (field_at img) (places_from (64 - n) img p e)) ≡ Some m)
+        → (looked t (key_of x) ≡ suc m) ⊎ (first_index (λ (f : Field). f.name) n x (map (field_at img) ps) ≡ Some m)
 
-  pub begin_fields : (t : List ℕ) → Told t 0 (inside img l) (after img l)
+  pub begin_fields : (t : List ℕ) → Told t 0 (places_in 64 img l)
   unfolding fields_at
   begin_fields t = record { each = λ x m q. inr q }
 
-  module _ (t : List ℕ) (n p e : ℕ) where
-    lost : {m : ℕ} → None ≡ Some m → ⊥
-    lost q = let z : ◌≡◌ {A = ℕ} 0 1 = cc in omega arith
+  lost : {m : ℕ} → None ≡ Some m → ⊥
+  lost q = let z : ◌≡◌ {A = ℕ} 0 1 = cc in omega arith
 
-    ended : ((x : Name) → None ≡ first_index (λ (f : Field). f.name) n x (map (field_at img) (places_from (64 - n) img p e))) → Told t n p e → Held img t l
-    ended none_left o = record { at = λ x m q. either x m (o.each x m q) }
+  module _ (t : List ℕ) (n : ℕ) {ps : List ℕ} where
+    pub end_fields : ps ≡ [] → Told t n ps → Held img t l
+    end_fields h o = record { at = λ x m q. either x m (o.each x m q) }
       where
-        either : (x : Name) (m : ℕ) → (looked t (key_of x) ≡ suc m) ⊎ (first_index (λ (f : Field). f.name) n x (map (field_at img) (places_from (64 - n) img p e)) ≡ Some m) → looked t (key_of x) ≡ suc m
+        either : (x : Name) (m : ℕ) → (looked t (key_of x) ≡ suc m) ⊎ (first_index (λ (f : Field). f.name) n x (map (field_at img) ps) ≡ Some m) → looked t (key_of x) ≡ suc m
         either x m (inl a) = a
-        either x m (inr b) = absurd (lost (none_left x ∙ b))
+        either x m (inr b) = absurd (lost (left_none img x n h ∙ b))
 
-    pub end_count : 64 ≤ n → Told t n p e → Held img t l
-    end_count h = ended (λ x. field_zero img x 64 n p e h)
-
-    pub end_fields : e ≤ p → Told t n p e → Held img t l
-    end_fields h = ended (λ x. field_end img x 64 n p e h)
-
-    module _ (u : List ℕ) (h : n < 64) (b : p < e) (o : Told t n p e) (w : Noted t u (key_of (name_in img p)) n) where
+    module _ (u : List ℕ) {p : ℕ} {qs : List ℕ} (h : ps ≡ p ∷ qs) (o : Told t n ps) (w : Noted t u (key_of (name_in img p)) n) where
       now : (x : Name) (m : ℕ) → (c : Bool) → eq_name (name_in img p) x ≡ c
-          → first_index (λ (f : Field). f.name) n x (map (field_at img) (places_from (64 - n) img p e)) ≡ Some m
-          → (looked u (key_of x) ≡ suc m) ⊎ (first_index (λ (f : Field). f.name) (n + 1) x (map (field_at img) (places_from (64 - (n + 1)) img (after img p) e)) ≡ Some m)
+          → first_index (λ (f : Field). f.name) n x (map (field_at img) ps) ≡ Some m
+          → (looked u (key_of x) ≡ suc m) ⊎ (first_index (λ (f : Field). f.name) (n + 1) x (map (field_at img) qs) ≡ Some m)
       now x m true c q =
-          let y : Some n ≡ Some m = field_here img x 64 n p e h b c ∙ q in
+          let y : Some n ≡ Some m = left_here img x n h c ∙ q in
           let k : n ≡ m = cc in
           inl (rw (← name_eq (name_in img p) x c, ← k) w.is)
-      now x m false c q = inr (sym (field_next img x 64 n p e h b c) ∙ q)
+      now x m false c q = inr (sym (left_next img x n h c) ∙ q)
 
-      either : (x : Name) (m : ℕ) → (looked t (key_of x) ≡ suc m) ⊎ (first_index (λ (f : Field). f.name) n x (map (field_at img) (places_from (64 - n) img p e)) ≡ Some m)
-          → (looked u (key_of x) ≡ suc m) ⊎ (first_index (λ (f : Field). f.name) (n + 1) x (map (field_at img) (places_from (64 - (n + 1)) img (after img p) e)) ≡ Some m)
+      either : (x : Name) (m : ℕ) → (looked t (key_of x) ≡ suc m) ⊎ (first_index (λ (f : Field). f.name) n x (map (field_at img) ps) ≡ Some m)
+          → (looked u (key_of x) ≡ suc m) ⊎ (first_index (λ (f : Field). f.name) (n + 1) x (map (field_at img) qs) ≡ Some m)
       either x m (inl a) = inl (grows t u (key_of x) m w.extends 509 (key_of x % 509) a)
       either x m (inr q) = now x m (eq_name (name_in img p) x) refl q
 
-      pub one_field : Told u (n + 1) (after img p) e
+      pub one_field : Told u (n + 1) qs
       one_field = record { each = λ x m q. either x m (o.each x m q) }
 
 -- The structs.

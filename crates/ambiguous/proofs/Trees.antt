@@ -7,8 +7,8 @@ use native.Mathlib.Numerals.{sub-one}
 use native.Mathlib.Omega.{arith}
 use borrow.Author.Tests.{ne_eqb, lt-ltb, le-ltb}
 use Rattle.rules.specs.Bytes.{pick, kind_at, inside, after}
-use Rattle.rules.specs.Tree.{Expr, Exprs, Inits, Stmt, Stmts}
-use Rattle.rules.specs.Read.{Kind, kind_of, expr_as, expr_at, exprs_from, inits_from, StmtKind, sReturn, sOther, stmt_kind_of, stmt_as, stmt_at_lem, stmts_from, body_at, else_at, name_in, second}
+use Rattle.rules.specs.Tree.{Expr, Stmt, Stmts}
+use Rattle.rules.specs.Read.{Kind, kind_of, expr_as, expr_at, StmtKind, sReturn, sOther, stmt_kind_of, stmt_as, stmt_at_lem, body_at, else_at}
 
 pub at_zero : (d : ℕ) (img : List ℕ) (i : ℕ) → d ≡ 0 → expr_at d img i ≡ Expr.no-expr i
 unfolding expr_at
@@ -35,54 +35,8 @@ unfolding stmt_at_lem
 stmt_kind zero img i k K h e q = absurd (h refl)
 stmt_kind (suc d) img i k K h e q = rw (← e, q) (simp sub-one)
 
--- Lists: none is left, or one more.
-module _ (f : ℕ → Expr) (img : List ℕ) where
-  pub exprs_zero : (k p e : ℕ) → k ≡ 0 → exprs_from k f img p e ≡ Exprs.none
-  unfolding exprs_from
-  exprs_zero zero p e h = refl
-  exprs_zero (suc k) p e h = absurd (omega arith)
-
-  pub exprs_end : (k p e : ℕ) → e ≤ p → exprs_from k f img p e ≡ Exprs.none
-  unfolding exprs_from
-  exprs_end zero p e h = refl
-  exprs_end (suc k) p e h = simp (le-ltb _ _ h)
-
-  pub exprs_more : (k p e : ℕ) → (k ≡ 0 → ⊥) → p < e → exprs_from k f img p e ≡ Exprs.more (f p) (exprs_from (k - 1) f img (after img p) e)
-  unfolding exprs_from
-  exprs_more zero p e h l = absurd (h refl)
-  exprs_more (suc k) p e h l = simp (lt-ltb _ _ l, sub-one)
-
-  pub inits_zero : (k p e : ℕ) → k ≡ 0 → inits_from k f img p e ≡ Inits.no-init
-  unfolding inits_from
-  inits_zero zero p e h = refl
-  inits_zero (suc k) p e h = absurd (omega arith)
-
-  pub inits_end : (k p e : ℕ) → e ≤ p → inits_from k f img p e ≡ Inits.no-init
-  unfolding inits_from
-  inits_end zero p e h = refl
-  inits_end (suc k) p e h = simp (le-ltb _ _ h)
-
-  pub inits_more : (k p e : ℕ) → (k ≡ 0 → ⊥) → p < e → inits_from k f img p e ≡ Inits.init p (name_in img p) (f (second img p)) (inits_from (k - 1) f img (after img p) e)
-  unfolding inits_from
-  inits_more zero p e h l = absurd (h refl)
-  inits_more (suc k) p e h l = simp (lt-ltb _ _ l, sub-one)
-
+-- An else, and none.
 module _ (f : ℕ → Stmt) (img : List ℕ) where
-  pub stmts_zero : (k p e : ℕ) → k ≡ 0 → stmts_from k f img p e ≡ Stmts.none
-  unfolding stmts_from
-  stmts_zero zero p e h = refl
-  stmts_zero (suc k) p e h = absurd (omega arith)
-
-  pub stmts_end : (k p e : ℕ) → e ≤ p → stmts_from k f img p e ≡ Stmts.none
-  unfolding stmts_from
-  stmts_end zero p e h = refl
-  stmts_end (suc k) p e h = simp (le-ltb _ _ h)
-
-  pub stmts_more : (k p e : ℕ) → (k ≡ 0 → ⊥) → p < e → stmts_from k f img p e ≡ Stmts.more (f p) (stmts_from (k - 1) f img (after img p) e)
-  unfolding stmts_from
-  stmts_more zero p e h l = absurd (h refl)
-  stmts_more (suc k) p e h l = simp (lt-ltb _ _ l, sub-one)
-
   module _ (l e : ℕ) {a b : ℕ} (ha : a ≡ l) (hb : b ≡ e) where
     pub else_there : a < b → else_at f img l e ≡ body_at f img l
     unfolding else_at

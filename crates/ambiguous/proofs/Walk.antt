@@ -8,22 +8,22 @@ use Rattle.std.specs.Prelude.{None, Option, Some}
 use mathlib.Core.List.{List, [], ◌∷◌, map}
 use mathlib.Core.Bool.{Bool, true, false}
 use mathlib.Core.Path.{◌≡◌, refl, sym, ◌∙◌}
-use Prim.Native.Nat.{ℕ, ◌+◌, ◌-◌, ◌≤◌, ◌<◌}
+use Prim.Native.Nat.{ℕ, ◌+◌, ◌≤◌, ◌<◌}
 use native.Mathlib.Numerals.{add-one}
 use lib.Dec.{eqb}
 use lib.ListN.{length, get_or, drop, drop_of_length-le}
 use borrow.Author.Tests.{ne_eqb}
 use lib.Seq.{drop-cons}
-use Rattle.rules.specs.Bytes.{pick, Name, after}
+use Rattle.rules.specs.Bytes.{pick, Name}
 use Rattle.rules.specs.Tables.{or_else}
 use Rattle.rules.specs.Tree.{Expr, Exprs, Inits, Stmt, Stmts, Function, Contract}
-use Rattle.rules.specs.Read.{kind_of, kInt, kIdent, kStorage, kOther, expr_as, exprs_from, inits_from, stmt_at_lem, stmts_from, body_at, function_at, contract_at, second, fifth}
+use Rattle.rules.specs.Read.{kind_of, kInt, kIdent, kStorage, kOther, expr_as, stmt_at_lem, body_at, function_at, contract_at, second, fifth}
 use Rattle.rules.specs.Ambiguous.{is_ambiguous_lem, in_expr_lem, in_exprs, in_inits_lem, in_stmt_lem, in_stmts, in_functions, first_ambiguous_lem}
 use Rattle.before.specs.Old.{ambiguous_before}
 use Rattle.before.specs.Meant.{still_clear}
 use Rattle.tables.specs.Listed.{functions_in}
 use Rattle.ambiguous.specs.Spots.{unsure}
-use Rattle.ambiguous.proofs.Trees.{exprs_zero, exprs_end, exprs_more, inits_zero, inits_end, inits_more, stmts_zero, stmts_end, stmts_more}
+use Rattle.bounds.specs.Lists.{exprs_of, inits_of, stmts_of}
 
 pub then_first : {p : ℕ} {x : Option ℕ} (y : Option ℕ) → Some p ≡ x → Some p ≡ or_else x y
 unfolding or_else
@@ -47,58 +47,47 @@ unfolding or_else
 else_none (Some a) = refl
 else_none None = refl
 
-module _ (C : Contract) (img : List ℕ) where
-  module _ (f : ℕ → Expr) (k p e : ℕ) where
-    pub args_zero : k ≡ 0 → None ≡ in_exprs C (exprs_from k f img p e)
-    unfolding in_exprs
-    args_zero h = rw (exprs_zero f img k p e h)
+-- The trees over some places.
+module _ (C : Contract) {ps : List ℕ} where
+  module _ (f : ℕ → Expr) where
+    pub args_none : ps ≡ [] → None ≡ in_exprs C (exprs_of f ps)
+    unfolding in_exprs exprs_of
+    args_none h = rw h
 
-    pub args_end : e ≤ p → None ≡ in_exprs C (exprs_from k f img p e)
-    unfolding in_exprs
-    args_end h = rw (exprs_end f img k p e h)
+    pub inits_none : (img : List ℕ) → ps ≡ [] → None ≡ in_inits_lem C (inits_of f img ps)
+    unfolding in_inits_lem inits_of
+    inits_none img h = rw h
 
-    pub inits_none : k ≡ 0 → None ≡ in_inits_lem C (inits_from k f img p e)
-    unfolding in_inits_lem
-    inits_none h = rw (inits_zero f img k p e h)
+    module _ {p : ℕ} {qs : List ℕ} (h : ps ≡ p ∷ qs) where
+      pub args_here : {q : ℕ} → Some q ≡ in_expr_lem C (f p) → Some q ≡ in_exprs C (exprs_of f ps)
+      unfolding in_exprs exprs_of
+      args_here w = rw h (then_first _ w)
 
-    pub inits_over : e ≤ p → None ≡ in_inits_lem C (inits_from k f img p e)
-    unfolding in_inits_lem
-    inits_over h = rw (inits_end f img k p e h)
+      pub args_next : {a : Option ℕ} → a ≡ None → a ≡ in_expr_lem C (f p) → in_exprs C (exprs_of f ps) ≡ in_exprs C (exprs_of f qs)
+      unfolding in_exprs exprs_of or_else
+      args_next q w = rw (h, ← w, q)
 
-    module _ (h : k ≡ 0 → ⊥) (l : p < e) where
-      pub args_here : {q : ℕ} → Some q ≡ in_expr_lem C (f p) → Some q ≡ in_exprs C (exprs_from k f img p e)
-      unfolding in_exprs
-      args_here w = rw (exprs_more f img k p e h l) (then_first _ w)
+      pub inits_here : (img : List ℕ) {q : ℕ} → Some q ≡ in_expr_lem C (f (second img p)) → Some q ≡ in_inits_lem C (inits_of f img ps)
+      unfolding in_inits_lem inits_of
+      inits_here img w = rw h (then_first _ w)
 
-      pub args_next : {a : Option ℕ} → a ≡ None → a ≡ in_expr_lem C (f p) → in_exprs C (exprs_from k f img p e) ≡ in_exprs C (exprs_from (k - 1) f img (after img p) e)
-      unfolding in_exprs or_else
-      args_next q w = rw (exprs_more f img k p e h l, ← w, q)
+      pub inits_next : (img : List ℕ) {a : Option ℕ} → a ≡ None → a ≡ in_expr_lem C (f (second img p)) → in_inits_lem C (inits_of f img ps) ≡ in_inits_lem C (inits_of f img qs)
+      unfolding in_inits_lem inits_of or_else
+      inits_next img q w = rw (h, ← w, q)
 
-      pub inits_here : {q : ℕ} → Some q ≡ in_expr_lem C (f (second img p)) → Some q ≡ in_inits_lem C (inits_from k f img p e)
-      unfolding in_inits_lem
-      inits_here w = rw (inits_more f img k p e h l) (then_first _ w)
+  module _ (f : ℕ → Stmt) where
+    pub body_none : ps ≡ [] → None ≡ in_stmts C (stmts_of f ps)
+    unfolding in_stmts stmts_of
+    body_none h = rw h
 
-      pub inits_next : {a : Option ℕ} → a ≡ None → a ≡ in_expr_lem C (f (second img p)) → in_inits_lem C (inits_from k f img p e) ≡ in_inits_lem C (inits_from (k - 1) f img (after img p) e)
-      unfolding in_inits_lem or_else
-      inits_next q w = rw (inits_more f img k p e h l, ← w, q)
+    module _ {p : ℕ} {qs : List ℕ} (h : ps ≡ p ∷ qs) where
+      pub body_here : {q : ℕ} → Some q ≡ in_stmt_lem C (f p) → Some q ≡ in_stmts C (stmts_of f ps)
+      unfolding in_stmts stmts_of
+      body_here w = rw h (then_first _ w)
 
-  module _ (f : ℕ → Stmt) (k p e : ℕ) where
-    pub body_zero : k ≡ 0 → None ≡ in_stmts C (stmts_from k f img p e)
-    unfolding in_stmts
-    body_zero h = rw (stmts_zero f img k p e h)
-
-    pub body_end : e ≤ p → None ≡ in_stmts C (stmts_from k f img p e)
-    unfolding in_stmts
-    body_end h = rw (stmts_end f img k p e h)
-
-    module _ (h : k ≡ 0 → ⊥) (l : p < e) where
-      pub body_here : {q : ℕ} → Some q ≡ in_stmt_lem C (f p) → Some q ≡ in_stmts C (stmts_from k f img p e)
-      unfolding in_stmts
-      body_here w = rw (stmts_more f img k p e h l) (then_first _ w)
-
-      pub body_next : {a : Option ℕ} → a ≡ None → a ≡ in_stmt_lem C (f p) → in_stmts C (stmts_from k f img p e) ≡ in_stmts C (stmts_from (k - 1) f img (after img p) e)
-      unfolding in_stmts or_else
-      body_next q w = rw (stmts_more f img k p e h l, ← w, q)
+      pub body_next : {a : Option ℕ} → a ≡ None → a ≡ in_stmt_lem C (f p) → in_stmts C (stmts_of f ps) ≡ in_stmts C (stmts_of f qs)
+      unfolding in_stmts stmts_of or_else
+      body_next q w = rw (h, ← w, q)
 
 -- Expressions that hold no other.
 module _ (C : Contract) (f : ℕ → Expr) (img : List ℕ) (i : ℕ) where

@@ -5,9 +5,10 @@
 ghost use Rattle.std.specs.Prelude.{true, false, ◌≡◌, ℕ, ◌<◌, ◌≤◌, length, get_or, None, Some};
 ghost use Rattle.rules.specs.Bytes.{Name};
 ghost use Rattle.rules.specs.Read.{contract_at};
-ghost use Rattle.tables.specs.Listed.{Tabled};
 ghost use Rattle.ambiguous.specs.Spots.{unsure};
 ghost use Rattle.ambiguous.specs.Slots.{Slot, Noted, Held, Extends};
+
+use tables::Contract;
 
 // The slot of a key, if there is one or one is free.
 fn slot_of(seen: &[usize], key: usize) -> Option<usize>
@@ -15,8 +16,7 @@ fn slot_of(seen: &[usize], key: usize) -> Option<usize>
     ensures { (h : ℕ) → result ≡ Some h → Slot seen.now key h }
 {
     let mut h = key % 509;
-    let mut left: usize = 509;
-    while left != 0 {
+    for _ in 0..509usize {
         if seen[2 * h + 1] == 0 {
             return Some(h);
         }
@@ -24,7 +24,6 @@ fn slot_of(seen: &[usize], key: usize) -> Option<usize>
             return Some(h);
         }
         h = (h + 1) % 509;
-        left -= 1;
     }
     None
 }
@@ -55,15 +54,9 @@ fn note_fields(seen: &mut [usize], img: &[u8], l: usize) -> bool
     requires { 1018 ≤ length seen.old }
     ensures { result ≡ true → Extends seen.old seen.new × Held img.now seen.new l }
 {
-    let end = records::past(img, l);
-    let mut p = records::body(img, l);
-    let mut n = 0;
-    while n < 64 && p < end {
+    for (n, p) in records::list(img, l, 64).enumerate() {
         let key = records::name_key(img, records::body(img, p));
-        if note(seen, key, n) {
-            p = records::past(img, p);
-            n += 1;
-        } else {
+        if !note(seen, key, n) {
             return false;
         }
     }
@@ -75,26 +68,18 @@ fn forget(seen: &mut [usize])
     requires { 1018 ≤ length seen.old }
     ensures { (j : ℕ) → j < 1018 → get_or seen.new j 0 ≡ 0 }
 {
-    let mut i: usize = 0;
-    while i < 1018 {
-        seen[i] = 0;
-        i += 1;
-    }
+    seen[..1018].fill(0);
 }
 
 // No field has two positions. The table stands in what is lent, and is left there.
-pub fn all_agree(seen: &mut [usize; records::NAMES], img: &[u8], tables: &[usize]) -> bool
-    requires { Tabled img.now tables.now }
-    ensures { result ≡ true → (x : Name) → unsure (contract_at img.now) x ≡ false }
+pub fn all_agree(seen: &mut [usize; records::NAMES], contract: &Contract<'_>) -> bool
+    ensures { result ≡ true → (x : Name) → unsure (contract_at contract.now.img.now) x ≡ false }
 {
     forget(seen);
-    let n = tables::struct_count(tables);
-    let mut i = 0;
-    while i < n {
-        let fields = crate::second(img, tables::struct_place(tables, i));
-        if note_fields(seen, img, fields) {
-            i += 1;
-        } else {
+    let img = contract.img;
+    for i in 0..contract.struct_count() {
+        let fields = crate::second(img, contract.struct_place(i));
+        if !note_fields(seen, img, fields) {
             return false;
         }
     }

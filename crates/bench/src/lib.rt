@@ -15,11 +15,7 @@ pub extern "C" fn hasp_check(image: &[u8]) -> u64
 {
     match image::check(image) {
         Ok(_) => 0,
-        Err((number, place)) => host::pack(Answer {
-            refusal: number as u64,
-            place: place as u64,
-            count: 0,
-        }),
+        Err((number, place)) => host::pack(Answer::of(number as u64, place, 0)),
     }
 }
 

@@ -8,6 +8,7 @@ ghost use Rattle.rules.specs.Build.{rules};
 ghost use Rattle.compiler.specs.Ends.{Built};
 
 use rules::Answer;
+use tables::Contract;
 
 // Refusal, place and count of an image built into a lent code slice, with a lent table of function entries, three numbers each (place,
 // first word, parameter count). On a refusal both are all zero; on 0 what lies past the words and the entries is as it was lent.
@@ -25,15 +26,13 @@ pub fn build(image: &[u8], code: &mut [u64], table: &mut [u64]) -> Answer
         stages::target(),
     );
     if a.refusal != 0 {
-        lent::clear_words(table);
+        table.fill(0);
         return a;
     }
-    table::fill(
-        table,
-        image,
-        &tables,
-        &firsts,
-        tables::function_count(&tables),
-    );
+    let contract = Contract {
+        img: image,
+        tables: &tables,
+    };
+    table::fill(table, &contract, &firsts);
     a
 }

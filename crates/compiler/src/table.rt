@@ -3,8 +3,10 @@ ghost use Rattle.std.specs.Prelude.{◌≡◌, [], ◌∷◌, ◌+◌, ◌*◌, 
 ghost use Rattle.rules.specs.Read.{function_at, places_from};
 ghost use Rattle.rules.specs.Lent.{over, spread};
 ghost use Rattle.lent.specs.Over.{over_at};
-ghost use Rattle.tables.specs.Listed.{Tabled, functions_in};
+ghost use Rattle.tables.specs.Listed.{functions_in};
 ghost use Rattle.compiler.specs.Made.{three, below};
+
+use tables::Contract;
 
 // How many parameters the function at f has.
 pub fn param_count(img: &[u8], f: usize) -> usize
@@ -25,15 +27,13 @@ fn write(table: &mut [u64], k: usize, place: usize, first: usize, params: usize)
     table[at + 2] = params as u64;
 }
 
-// The entries of all n functions, whose first words are `firsts`.
-pub(crate) fn fill(table: &mut [u64], img: &[u8], tables: &[usize], firsts: &[usize; 256], n: usize)
-    requires { Tabled img.now tables.now × ((n ≡ length (functions_in img.now)) × (3 * n ≤ length table.old)) }
-    ensures { table.new ≡ over (spread (three img.now firsts.now) (below n)) table.old }
+// The entries of all functions, whose first words are `firsts`.
+pub(crate) fn fill(table: &mut [u64], contract: &Contract<'_>, firsts: &[usize; 256])
+    requires { 3 * length (functions_in contract.now.img.now) ≤ length table.old }
+    ensures { table.new ≡ over (spread (three contract.now.img.now firsts.now) (below (length (functions_in contract.now.img.now)))) table.old }
 {
-    let mut k = 0;
-    while k < n {
-        let place = tables::function_place(tables, k);
-        write(table, k, place, firsts[k], param_count(img, place));
-        k += 1;
+    for k in 0..contract.function_count() {
+        let place = contract.function_place(k);
+        write(table, k, place, firsts[k], param_count(contract.img, place));
     }
 }

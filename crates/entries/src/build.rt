@@ -1,27 +1,25 @@
 // A build whose function table is a lent slice of entry structs (01: What comes back).
 ghost use Rattle.std.specs.Prelude.{◌≡◌, ℕ, ◌/◌, length};
 ghost use Rattle.rules.specs.Build.{rules, outcome};
-ghost use Rattle.tables.specs.Listed.{Tabled, functions_in};
 ghost use Rattle.compiler.specs.Ends.{Built};
 ghost use Rattle.compiler.specs.Stages.{Leaves};
 ghost use Rattle.entries.specs.Entries.{numbers_of};
 
 use crate::Entry;
 use rules::Answer;
+use tables::Contract;
 
-// What a build leaves for the table: its answer, how many functions there are, where they stand, their first words.
+// What a build leaves for the table: its answer, where the functions stand, their first words.
 #[derive(Clone, Copy)]
 struct Made {
     answer: Answer,
-    n: usize,
     tables: [usize; tables::SIZE],
     firsts: [usize; 256],
 }
 
 // All but the function table, which has room for so many entries.
 fn work(image: &[u8], code: &mut [u64], room: usize) -> Made
-    ensures { ((t : ℕ) → t / 3 ≡ room → Leaves image.now code.old result.answer code.new result.firsts result.tables (outcome rules image.now (length code.old) t))
-        × (Tabled image.now result.tables → result.n ≡ length (functions_in image.now)) }
+    ensures { (t : ℕ) → t / 3 ≡ room → Leaves image.now code.old result.answer code.new result.firsts result.tables (outcome rules image.now (length code.old) t) }
 {
     let mut tables = [0usize; tables::SIZE];
     let mut firsts = [0usize; 256];
@@ -35,7 +33,6 @@ fn work(image: &[u8], code: &mut [u64], room: usize) -> Made
     );
     Made {
         answer,
-        n: tables[tables::FUNCTIONS],
         tables,
         firsts,
     }
@@ -49,7 +46,11 @@ pub fn build_entries(image: &[u8], code: &mut [u64], table: &mut [Entry]) -> Ans
     if m.answer.refusal == 0 {
         let tables = m.tables;
         let firsts = m.firsts;
-        crate::fill(table, image, &tables, &firsts, m.n);
+        let contract = Contract {
+            img: image,
+            tables: &tables,
+        };
+        crate::fill(table, &contract, &firsts);
     } else {
         crate::clear(table);
     }

@@ -4,9 +4,11 @@
 ghost use Rattle.std.specs.Prelude.{◌≡◌, ◌≤◌, ◌<◌, length, get_or, set, replicate};
 ghost use Rattle.rules.specs.Read.{function_at};
 ghost use Rattle.rules.specs.Lent.{over};
-ghost use Rattle.tables.specs.Listed.{Tabled, functions_in};
+ghost use Rattle.tables.specs.Listed.{functions_in};
 ghost use Rattle.entries.specs.Entries.{blank};
 ghost use Rattle.entries.specs.Rows.{entry_of, entries_of};
+
+use tables::Contract;
 
 pub mod build;
 
@@ -52,39 +54,32 @@ pub fn put(table: &mut [Entry], i: usize, e: Entry)
 pub fn clear(table: &mut [Entry])
     ensures { table.new ≡ replicate (length table.old) blank }
 {
-    let n = table.len();
-    let mut i = 0;
-    while i < n {
-        table[i] = Entry {
-            place: 0,
-            first: 0,
-            params: 0,
-        };
-        i += 1;
-    }
+    table.fill(Entry {
+        place: 0,
+        first: 0,
+        params: 0,
+    });
 }
 
 // The entry of function k (01: place, first word, parameter count).
-fn entry_no(img: &[u8], tables: &[usize], firsts: &[usize], k: usize) -> Entry
-    requires { Tabled img.now tables.now × ((k < length (functions_in img.now)) × (k < length firsts.now)) }
-    ensures { result ≡ entry_of img.now firsts.now k }
+fn entry_no(contract: &Contract<'_>, firsts: &[usize], k: usize) -> Entry
+    requires { (k < length (functions_in contract.now.img.now)) × (k < length firsts.now) }
+    ensures { result ≡ entry_of contract.now.img.now firsts.now k }
 {
-    let place = tables::function_place(tables, k);
+    let place = contract.function_place(k);
     Entry {
         place: place as u64,
         first: firsts[k] as u64,
-        params: compiler::table::param_count(img, place) as u64,
+        params: compiler::table::param_count(contract.img, place) as u64,
     }
 }
 
-// The entries of the first n functions, whose first words are `firsts`; past them what was lent.
-fn fill(table: &mut [Entry], img: &[u8], tables: &[usize], firsts: &[usize], n: usize)
-    requires { Tabled img.now tables.now × ((n ≤ length (functions_in img.now)) × ((n ≤ length firsts.now) × (n ≤ length table.old))) }
-    ensures { table.new ≡ over (entries_of img.now firsts.now n) table.old }
+// The entries of all functions, whose first words are `firsts`; past them what was lent.
+fn fill(table: &mut [Entry], contract: &Contract<'_>, firsts: &[usize])
+    requires { (length (functions_in contract.now.img.now) ≤ length firsts.now) × (length (functions_in contract.now.img.now) ≤ length table.old) }
+    ensures { table.new ≡ over (entries_of contract.now.img.now firsts.now (length (functions_in contract.now.img.now))) table.old }
 {
-    let mut k = 0;
-    while k < n {
-        table[k] = entry_no(img, tables, firsts, k);
-        k += 1;
+    for k in 0..contract.function_count() {
+        table[k] = entry_no(contract, firsts, k);
     }
 }

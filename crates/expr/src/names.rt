@@ -8,9 +8,10 @@ ghost use Rattle.rules.specs.Tree.{Expr};
 ghost use Rattle.rules.specs.Builtins.{builtin};
 ghost use Rattle.rules.specs.Emit.{find};
 ghost use Rattle.rules.specs.Read.{contract_at};
-ghost use Rattle.tables.specs.Listed.{Tabled};
 ghost use Rattle.expr.specs.Scope.{scope_in};
 ghost use Rattle.expr.specs.Names.{reg_of, Unknown, builtin_of, function_in};
+
+use tables::Contract;
 
 #[derive(Clone, Copy)]
 pub enum Builtin {
@@ -55,11 +56,10 @@ pub fn lookup(img: &[u8], scope: &[usize], x: usize) -> Option<u64>
 }
 
 // 000: func_offsets.get: the last function of the name at x, as its index
-pub fn function_index(img: &[u8], tables: &[usize], x: usize) -> usize
-    requires { Tabled img.now tables.now }
-    ensures { result ≡ function_in img.now (name_at img.now x) }
+pub fn function_index(contract: &Contract<'_>, x: usize) -> usize
+    ensures { result ≡ function_in contract.now.img.now (name_at contract.now.img.now x) }
 {
-    match tables::function_named(img, tables, x) {
+    match contract.function_named(x) {
         Some(found) => found.index,
         None => 256,
     }

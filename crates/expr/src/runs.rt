@@ -11,13 +11,11 @@ use isa::Opcode;
 pub fn push_numbers(code: &mut [u64], n: usize, end: usize)
     ensures { code.new ≡ over_at n (run pushes 1 (end - n)) code.old }
 {
-    let stop = emit::least(end, code.len());
-    let mut j = n;
+    let stop = end.min(code.len());
     let mut i = 0;
-    while j < stop {
+    for j in n..stop {
         i += 1;
         code[j] = emit::word(Opcode::Push, 0, i, 0, 0);
-        j += 1;
     }
 }
 
@@ -25,7 +23,7 @@ pub fn push_numbers(code: &mut [u64], n: usize, end: usize)
 pub fn push_bytes(bytes: &mut [u8], n: usize, end: usize)
     ensures { bytes.new ≡ over_at (8 * n) (bytes_of (run pushes 1 (end - n))) bytes.old }
 {
-    let stop = emit::least(end, bytes.len() / 8);
+    let stop = end.min(bytes.len() / 8);
     let mut j = n;
     let mut i = 0;
     while j < stop {
@@ -43,13 +41,11 @@ pub fn pop_numbers(code: &mut [u64], n: usize, end: usize, k: u64)
     requires { end ≤ n + k }
     ensures { code.new ≡ over_at n (run (pops k) 0 (end - n)) code.old }
 {
-    let stop = emit::least(end, code.len());
-    let mut j = n;
+    let stop = end.min(code.len());
     let mut i = 0;
-    while j < stop {
+    for j in n..stop {
         code[j] = emit::word(Opcode::Pop, k - i, 0, 0, 0);
         i += 1;
-        j += 1;
     }
 }
 
@@ -58,7 +54,7 @@ pub fn pop_bytes(bytes: &mut [u8], n: usize, end: usize, k: u64)
     requires { end ≤ n + k }
     ensures { bytes.new ≡ over_at (8 * n) (bytes_of (run (pops k) 0 (end - n))) bytes.old }
 {
-    let stop = emit::least(end, bytes.len() / 8);
+    let stop = end.min(bytes.len() / 8);
     let mut j = n;
     let mut i = 0;
     while j < stop {

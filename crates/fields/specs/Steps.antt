@@ -1,6 +1,6 @@
 -- The Fields of a List and the structs of an image, one at a time.
 -- Assumes nothing.
-use Rattle.std.specs.Prelude.{true, false, List, [], map, ◌≡◌, ℕ, ◌+◌, ◌-◌, ◌≤◌, ◌<◌, length, None, Some}
+use Rattle.std.specs.Prelude.{true, false, List, [], ◌∷◌, map, ◌≡◌, ℕ, ◌+◌, ◌-◌, ◌≤◌, ◌<◌, length, None, Some}
 use Rattle.std.proofs.Math.Path.{refl}
 use Rattle.std.proofs.Common.{add-one, drop_of_length-le}
 use native.Mathlib.Omega.{arith}
@@ -35,6 +35,23 @@ module _ (img : List ℕ) (x : Name) (m n p e : ℕ) where
       → first_index (λ (f : Field). f.name) n x (map (field_at img) (places_from (m - n) img p e)) ≡ first_index (λ (f : Field). f.name) (n + 1) x (map (field_at img) (places_from (m - (n + 1)) img (after img p) e))
   unfolding first_index field_at or_else pick
   field_next h l q = let z : m - (n + 1) ≡ m - n - 1 = omega arith in rw (z, places_more img (m - n) p e (λ y. omega arith) l, q, add-one)
+
+-- The Fields at some places, from position n on.
+module _ (img : List ℕ) (x : Name) (n : ℕ) where
+  pub left_none : {ps : List ℕ} → ps ≡ [] → None ≡ first_index (λ (f : Field). f.name) n x (map (field_at img) ps)
+  unfolding first_index
+  left_none h = rw h
+
+  -- The first has the name.
+  pub left_here : {ps qs : List ℕ} {p : ℕ} → ps ≡ p ∷ qs → eq_name (name_in img p) x ≡ true → Some n ≡ first_index (λ (f : Field). f.name) n x (map (field_at img) ps)
+  unfolding first_index field_at or_else pick
+  left_here h q = rw (h, q)
+
+  -- It has another.
+  pub left_next : {ps qs : List ℕ} {p : ℕ} → ps ≡ p ∷ qs → eq_name (name_in img p) x ≡ false
+      → first_index (λ (f : Field). f.name) n x (map (field_at img) ps) ≡ first_index (λ (f : Field). f.name) (n + 1) x (map (field_at img) qs)
+  unfolding first_index field_at or_else pick
+  left_next h q = rw (h, q, add-one)
 
 module _ (img : List ℕ) (x : Name) where
   -- The structs from the first on are all of them.

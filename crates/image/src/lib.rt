@@ -14,7 +14,7 @@ use grammar::{
     CONTRACT_PARTS, MANY, PARAM, PARTS, STORAGE_FIELD, TABLE, after_first, dues_of, is_ended,
     is_leaf, not_due,
 };
-use read::{all_name, half, wide, word};
+use read::{all_name, half, word};
 use rules::Seen;
 
 // Under 6 bytes are left, or the length is under 2 or passes the end.
@@ -74,7 +74,7 @@ fn is_small(s: &[u8], from: usize, to: usize, limit: usize) -> bool
     ensures { result ≡ small s.now from to limit }
 {
     if to - from == 1 {
-        wide(s[from]) < limit
+        usize::from(s[from]) < limit
     } else {
         false
     }

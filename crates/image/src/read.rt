@@ -3,18 +3,12 @@ ghost use Rattle.std.specs.Prelude.{◌≡◌, true, ◌+◌, ◌-◌, ◌≤◌
 ghost use Rattle.rules.specs.Bytes.{le16, le32, name_byte_lem, name_from};
 ghost use Rattle.image.specs.Names.{Fours, Named};
 
-pub fn wide(x: u8) -> usize
-    ensures { (result ≡ x) × (result < 256) }
-{
-    x as usize
-}
-
 // Two bytes, little-endian.
 pub fn half(s: &[u8], at: usize) -> usize
     requires { at + 2 ≤ length s.now }
     ensures { (result ≡ le16 s.now at) × (result < 65536) }
 {
-    wide(s[at]) + 256 * wide(s[at + 1])
+    usize::from(s[at]) + 256 * usize::from(s[at + 1])
 }
 
 // Four bytes, little-endian.
@@ -22,7 +16,10 @@ pub fn word(s: &[u8], at: usize) -> usize
     requires { at + 4 ≤ length s.now }
     ensures { (result ≡ le32 s.now at) × (result < 4294967296) }
 {
-    wide(s[at]) + 256 * wide(s[at + 1]) + 65536 * wide(s[at + 2]) + 16777216 * wide(s[at + 3])
+    usize::from(s[at])
+        + 256 * usize::from(s[at + 1])
+        + 65536 * usize::from(s[at + 2])
+        + 16777216 * usize::from(s[at + 3])
 }
 
 // A-Z a-z 0-9 _ :
@@ -55,11 +52,8 @@ fn each_name(s: &[u8], from: usize, to: usize) -> bool
     requires { to ≤ length s.now }
     ensures { result ≡ name_from s.now from (to - from) }
 {
-    let mut p = from;
-    while p < to {
-        if name_byte(wide(s[p])) {
-            p += 1;
-        } else {
+    for p in from..to {
+        if !name_byte(usize::from(s[p])) {
             return false;
         }
     }
@@ -88,9 +82,9 @@ fn few_name(s: &[u8], from: usize, to: usize) -> bool
     requires { (from < to) × (to ≤ from + 3) × (to ≤ length s.now) }
     ensures { result ≡ true → Named s.now from to }
 {
-    let w = wide(s[from])
-        + 256 * wide(s[from + (to - from) / 2])
-        + 65536 * wide(s[to - 1])
+    let w = usize::from(s[from])
+        + 256 * usize::from(s[from + (to - from) / 2])
+        + 65536 * usize::from(s[to - 1])
         + 0x30000000;
     if w & 0x80808080 != 0 {
         return false;
@@ -100,12 +94,6 @@ fn few_name(s: &[u8], from: usize, to: usize) -> bool
     let c = (w + 0x21212121) ^ (w + 0x20202020);
     let d = (w + 0x1f1f1f1f) ^ (w + 0x05050505);
     (a ^ b ^ (c ^ d)) & 0x80808080 == 0x80808080
-}
-
-fn least(a: usize, b: usize) -> usize
-    ensures { result ≡ min a b }
-{
-    if a < b { a } else { b }
 }
 
 // The same of all the bytes, eight at a time; the last eight may have been seen in part. What that does not tell is told one by one.
@@ -127,7 +115,7 @@ pub fn all_name(s: &[u8], from: usize, to: usize) -> bool
             return each_name(s, from, to);
         }
     }
-    let q = least(p, to - 4);
+    let q = p.min(to - 4);
     if fours_name(s, q, to - 4) {
         return true;
     }

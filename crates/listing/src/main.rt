@@ -12,10 +12,8 @@ fn refused(rt: &impl Print, a: Answer) -> io::Result<()> {
 // A line for each word.
 fn words(rt: &impl Print, code: &[u64]) -> io::Result<()> {
     println!(rt; "words {}", code.len())?;
-    let mut i = 0;
-    while i < code.len() {
-        line(rt, i, code[i])?;
-        i += 1;
+    for (i, w) in code.iter().enumerate() {
+        line(rt, i, *w)?;
     }
     Ok(())
 }

@@ -5,6 +5,8 @@ use mathlib.Core.List.{List, [], ◌∷◌}
 use mathlib.Core.Path.{◌≡◌, refl, sym, ap, ◌∙◌}
 use Prim.Native.Nat.{ℕ, ◌+◌, ◌-◌, ◌≤◌, ◌<◌}
 use native.Mathlib.Omega.{arith}
+use lib.Dec.{eqb}
+use borrow.Author.Tests.{eq-eqb, ne_eqb}
 use Rattle.rules.specs.Bytes.{pick, Name, eq_name, inside, after}
 use Rattle.rules.specs.Tables.{or_else, last, first_index}
 use Rattle.rules.specs.Tree.{Struct, Contract}
@@ -14,51 +16,86 @@ use Rattle.rules.specs.Layout.{declared}
 use Rattle.rules.specs.Read.{places_from, places_in, name_in, field_at, fields_at, struct_at, second}
 use Rattle.before.specs.Fields.{some_none, some_same}
 use Rattle.notes.specs.Notes.{noted, left, spot_in_lem, marked}
-use Rattle.lookup.specs.declared.Spot.{Spot}
 use Rattle.lookup.specs.Fields.{first_of, last_of, Spotted}
 use Rattle.lookup.specs.Places.{places_more}
 use Rattle.lookup.proofs.Searches.{or_none, last_step, last_end, first_step, first_end, first_map}
 use Rattle.lookup.proofs.Signs.{field_name_lem}
 
--- n Fields are behind, of which r is known; the rest stand from p to end
-pub record Walk (img : List ℕ) (l : ℕ) (x : Name) (end p n : ℕ) (r : Option Spot) : Type 0 where
+-- v, if something was found: f is not 64
+pub seen : (f v : ℕ) → Option ℕ
+seen f v = pick (eqb f 64) None (Some v)
+
+-- n Fields are behind: the first of the name has the position f, 64 if there is none, the last stands at q; the rest stand from p to end
+pub record Walk (img : List ℕ) (l : ℕ) (x : Name) (end p n f q : ℕ) : Type 0 where
   pub few : n ≤ 64
-  pub first : first_index (name_in img) 0 x (places_in 64 img l) ≡ or_else (first_of r) (first_index (name_in img) n x (places_from (64 - n) img p end))
-  pub last : last (name_in img) x (places_in 64 img l) ≡ or_else (last (name_in img) x (places_from (64 - n) img p end)) (last_of r)
-  pub below : (k : ℕ) → first_of r ≡ Some k → k < 64
+  pub first : first_index (name_in img) 0 x (places_in 64 img l) ≡ or_else (seen f f) (first_index (name_in img) n x (places_from (64 - n) img p end))
+  pub last : last (name_in img) x (places_in 64 img l) ≡ or_else (last (name_in img) x (places_from (64 - n) img p end)) (seen f q)
+  pub below : f ≤ 64
 
 -- before the first
-pub walk_first : (img : List ℕ) (l : ℕ) (x : Name) → Walk img l x (after img l) (inside img l) 0 None
-unfolding or_else first_of last_of
-walk_first img l x = record { few = omega arith; first = refl; last = sym (or_none _); below = λ k z. some_none k (sym z) }
+pub walk_first : (img : List ℕ) (l : ℕ) (x : Name) → Walk img l x (after img l) (inside img l) 0 64 0
+unfolding seen or_else pick
+walk_first img l x = record { few = omega arith; first = refl; last = sym (or_none _); below = omega arith }
 
--- the first of two: below a bound, if each is
-either : (is : Bool) (n m : ℕ) (o : Option ℕ) → n < m → ((k : ℕ) → o ≡ Some k → k < m) → (k : ℕ) → or_else o (pick is (Some n) None) ≡ Some k → k < m
-unfolding or_else pick
-either is n m (Some j) h g k e = g k e
-either true n m None h g k e = let z = some_same n k e in omega (arith, h, z)
-either false n m None h g k e = some_none k (sym e)
+-- one Field more, the n-th, at p
+module _ (is : Bool) (n p f q : ℕ) (h : n < 64) where
+  also_first : seen (pick is (pick (eqb f 64) n f) f) (pick is (pick (eqb f 64) n f) f) ≡ or_else (seen f f) (pick is (Some n) None)
+  unfolding seen or_else pick
+  also_first = by is (eqb f 64) refl
+    where
+      by : (b c : Bool) → eqb f 64 ≡ c → seen (pick b (pick c n f) f) (pick b (pick c n f) f) ≡ or_else (pick c None (Some f)) (pick b (Some n) None)
+      by true true e = rw (ne_eqb n 64 (λ z. omega (arith, h, z)))
+      by true false e = rw e
+      by false true e = rw e
+      by false false e = rw e
 
-module _ (img : List ℕ) (l : ℕ) (x : Name) (end p n : ℕ) (r : Option Spot) (w : Walk img l x end p n r) where
-  -- one more, the n-th, at p
-  pub walk_on : {is : Bool} {s : Option Spot} → n < 64 → p < end → is ≡ eq_name (name_in img p) x
-      → first_of s ≡ or_else (first_of r) (pick is (Some n) None) → last_of s ≡ or_else (pick is (Some p) None) (last_of r) → Walk img l x end (after img p) (n + 1) s
-  walk_on {is} h g e i j = record {
+  also_last : seen (pick is (pick (eqb f 64) n f) f) (pick is p q) ≡ or_else (pick is (Some p) None) (seen f q)
+  unfolding seen or_else pick
+  also_last = by is (eqb f 64) refl
+    where
+      by : (b c : Bool) → eqb f 64 ≡ c → seen (pick b (pick c n f) f) (pick b p q) ≡ or_else (pick b (Some p) None) (pick c None (Some q))
+      by true true e = rw (ne_eqb n 64 (λ z. omega (arith, h, z)))
+      by true false e = rw e
+      by false true e = rw e
+      by false false e = rw e
+
+  also_below : f ≤ 64 → pick is (pick (eqb f 64) n f) f ≤ 64
+  unfolding pick
+  also_below g = by is (eqb f 64)
+    where
+      by : (b c : Bool) → pick b (pick c n f) f ≤ 64
+      by true true = omega (arith, h)
+      by true false = g
+      by false c = g
+
+module _ (img : List ℕ) (l : ℕ) (x : Name) (end p n f q : ℕ) (w : Walk img l x end p n f q) where
+  -- one more
+  pub walk_on : {is : Bool} {f' q' : ℕ} → n < 64 → p < end → is ≡ eq_name (name_in img p) x → f' ≡ pick is (pick (eqb f 64) n f) f → q' ≡ pick is p q → Walk img l x end (after img p) (n + 1) f' q'
+  walk_on {is} h g e i j = rw (i, j) (record {
     few = omega arith;
-    first = w.first ∙ first_step (name_in img) x p _ _ n (first_of r) _ next (i ∙ ap (λ b. or_else (first_of r) (pick b (Some n) None)) e);
-    last = w.last ∙ last_step (name_in img) x p _ _ (last_of r) _ next (j ∙ ap (λ b. or_else (pick b (Some p) None) (last_of r)) e);
-    below = λ k z. either is n 64 (first_of r) h w.below k (sym i ∙ z);
-  }
+    first = w.first ∙ first_step (name_in img) x p _ _ n (seen f f) _ next (also_first is n p f q h ∙ ap (λ b. or_else (seen f f) (pick b (Some n) None)) e);
+    last = w.last ∙ last_step (name_in img) x p _ _ (seen f q) _ next (also_last is n p f q h ∙ ap (λ b. or_else (pick b (Some p) None) (seen f q)) e);
+    below = also_below is n p f q h w.below;
+  })
     where
       next : places_from (64 - n) img p end ≡ p ∷ places_from (64 - (n + 1)) img (after img p) end
       next = let z : 64 - (n + 1) ≡ 64 - n - 1 = omega arith in rw z (places_more img (64 - n) p end (λ y. omega arith) g)
 
-  -- none is left
-  pub walked : places_from (64 - n) img p end ≡ [] → Spotted img l x r
-  walked e = record {
-    first = sym (w.first ∙ first_end (name_in img) x _ n (first_of r) e);
-    last = sym (w.last ∙ last_end (name_in img) x _ (last_of r) e);
-    below = w.below;
+  -- none is left: it was found, or not
+  pub walked_at : places_from (64 - n) img p end ≡ [] → (f ≡ 64 → ⊥) → Spotted img l x (Some (record { position = f; place = q }))
+  unfolding first_of last_of seen pick
+  walked_at e g = record {
+    first = sym (w.first ∙ (first_end (name_in img) x _ n (seen f f) e ∙ rw (ne_eqb f 64 g)));
+    last = sym (w.last ∙ (last_end (name_in img) x _ (seen f q) e ∙ rw (ne_eqb f 64 g)));
+    below = λ k z. let y = some_same f k z in let b = w.below in omega (arith, b, g, y);
+  }
+
+  pub walked_none : places_from (64 - n) img p end ≡ [] → f ≡ 64 → Spotted img l x None
+  unfolding first_of last_of seen pick
+  walked_none e g = record {
+    first = sym (w.first ∙ (first_end (name_in img) x _ n (seen f f) e ∙ rw (eq-eqb f 64 g)));
+    last = sym (w.last ∙ (last_end (name_in img) x _ (seen f q) e ∙ rw (eq-eqb f 64 g)));
+    below = λ k z. some_none k (sym z);
   }
 
 -- 02: P2: where the field stands in the struct at s

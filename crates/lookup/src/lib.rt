@@ -1,19 +1,20 @@
 // What the analysis (001: sema.rs) looks up: types, names in scope, structs, fields and functions. A name is the place of its record.
 #![tactic(auto)]
 
-ghost use Rattle.std.specs.Prelude.{◌≡◌, List, ℕ, ◌≤◌, ◌+◌, Some, None, length, get_or, drop};
+ghost use Rattle.std.specs.Prelude.{◌≡◌, List, ℕ, ◌≤◌, ◌+◌, eqb, length, get_or, drop};
 ghost use Rattle.rules.specs.Bytes.{pick, name_at, inside, after};
-ghost use Rattle.rules.specs.Tables.{last, nth, mapped, or_else};
+ghost use Rattle.rules.specs.Tables.{last, nth, mapped};
 ghost use Rattle.rules.specs.Tree.{Expr};
 ghost use Rattle.rules.specs.Read.{name_in, struct_at, contract_at, function_at};
 ghost use Rattle.rules.specs.Types.{Typ, type_named, tag_of, name_of, eq_typ, clash, init_clash, find};
 ghost use Rattle.rules.specs.Refusal.{Refusal, unless};
 ghost use Rattle.rules.specs.Builtins.{builtin, arity};
 ghost use Rattle.rules.specs.Analyse.{ret_type, params_of, field_type_lem, init_fits_lem, fitted, applied, signature, expr, clashes};
-ghost use Rattle.tables.specs.Listed.{Tabled};
 ghost use Rattle.lookup.specs.Answers.{ty_of, got_of, sig_at, typ_of, env_of, ret_of, due_of, typed_of, checked_of, misfit_of, noted};
 ghost use Rattle.lookup.specs.Scope.{Pushed};
-ghost use Rattle.lookup.specs.Fields.{first_of, last_of, Spotted, Accessed};
+ghost use Rattle.lookup.specs.Fields.{Spotted, Accessed};
+
+use tables::Contract;
 
 // 001: Type. A struct's type has the place of its name.
 #[derive(Clone, Copy)]
@@ -247,14 +248,13 @@ fn builtin_arity(img: &[u8], x: usize) -> Option<usize>
 }
 
 // 001: functions.get: the builtins were put in last.
-pub fn callee_named(img: &[u8], tables: &[usize], x: usize) -> Callee
-    requires { Tabled img.now tables.now }
-    ensures { sig_at img.now result ≡ signature (contract_at img.now) (name_at img.now x) }
+pub fn callee_named(contract: &Contract<'_>, x: usize) -> Callee
+    ensures { sig_at contract.now.img.now result ≡ signature (contract_at contract.now.img.now) (name_at contract.now.img.now x) }
 {
-    if let Some(k) = builtin_arity(img, x) {
+    if let Some(k) = builtin_arity(contract.img, x) {
         return Callee::Builtin(k);
     }
-    match tables::function_named(img, tables, x) {
+    match contract.function_named(x) {
         Some(found) => Callee::User(found.place),
         None => Callee::Undefined,
     }
@@ -385,56 +385,64 @@ pub fn analyze_ident(img: &[u8], at: usize, env: &[usize], top: usize) -> Result
     find_local(img, env, top, x).ok_or(Fault::Ident(at, x))
 }
 
-// What is found of a field behind one more Field, at position n and place p, where that is the field: its first position counts, and its last place.
-fn behind(spot: Option<Spot>, is: bool, n: usize, p: usize) -> Option<Spot>
-    ensures first { first_of result ≡ or_else (first_of spot) (pick is (Some n) None) }
-    ensures last { last_of result ≡ or_else (pick is (Some p) None) (last_of spot) }
+// The first position where a field is found, 64 if nowhere yet: it is sought at n, or was found before.
+fn first_of(first: usize, is: bool, n: usize) -> usize
+    ensures { result ≡ pick is (pick (eqb first 64) n first) first }
 {
-    if !is {
-        return spot;
+    if is {
+        if first == 64 {
+            return n;
+        }
     }
-    match spot {
-        Some(before) => Some(Spot {
-            position: before.position,
-            place: p,
-        }),
-        None => Some(Spot {
-            position: n,
-            place: p,
-        }),
-    }
+    first
 }
 
-// The field x in the List of Fields at l: its type is the last one's (001), its position the first one's (000).
+// The last place.
+fn last_of(last: usize, is: bool, p: usize) -> usize
+    ensures { result ≡ pick is p last }
+{
+    if is { p } else { last }
+}
+
+// The field x in the List of Fields at l: its type is the last one's (001), its position the first one's (000). Two numbers are the walk's state: with
+// both in an enum it took twice the time (docs/DECISIONS.md, 52).
 fn field_spot(img: &[u8], l: usize, x: &[u8]) -> Option<Spot>
     ensures { Spotted img.now l x.now result }
 {
     let end = records::past(img, l);
     let mut p = records::body(img, l);
     let mut n = 0;
-    let mut spot = None;
+    let mut first: usize = 64;
+    let mut last: usize = 0;
     while n < 64 && p < end {
         let is = records::is_name(img, records::body(img, p), x);
-        spot = behind(spot, is, n, p);
+        first = first_of(first, is, n);
+        last = last_of(last, is, p);
         p = records::past(img, p);
         n += 1;
     }
-    spot
+    if first == 64 {
+        None
+    } else {
+        Some(Spot {
+            position: first,
+            place: last,
+        })
+    }
 }
 
 // A field, with the name at x, of the struct with the name at s.
 fn struct_field(
     notes: &mut [u8; notes::SIZE],
-    img: &[u8],
-    tables: &[usize],
+    contract: &Contract<'_>,
     at: usize,
     s: usize,
     x: usize,
 ) -> Result<Ty, Fault>
-    requires { Tabled img.now tables.now }
-    ensures { Accessed img.now notes.old notes.new at (Typ.struct (name_at img.now s)) x result }
+    ensures { Accessed contract.now.img.now notes.old notes.new at (Typ.struct (name_at contract.now.img.now s)) x result }
 {
-    let Some(found) = tables::struct_named(img, tables, s) else {
+    let img = contract.img;
+    let Some(found) = contract.struct_named(s) else {
         notes::leave(notes);
         return Ok(Ty::Unknown);
     };
@@ -447,17 +455,15 @@ fn struct_field(
 // 001: analyze_expr, FieldAccess: a field, with the name at x, of a value of type t. What is found is noted (02: P2).
 pub fn field_of(
     notes: &mut [u8; notes::SIZE],
-    img: &[u8],
-    tables: &[usize],
+    contract: &Contract<'_>,
     at: usize,
     t: Ty,
     x: usize,
 ) -> Result<Ty, Fault>
-    requires { Tabled img.now tables.now }
-    ensures { Accessed img.now notes.old notes.new at (ty_of img.now t) x result }
+    ensures { Accessed contract.now.img.now notes.old notes.new at (ty_of contract.now.img.now t) x result }
 {
     match t {
-        Ty::Struct(s) => struct_field(notes, img, tables, at, s, x),
+        Ty::Struct(s) => struct_field(notes, contract, at, s, x),
         Ty::Unknown => {
             notes::leave(notes);
             Ok(Ty::Unknown)

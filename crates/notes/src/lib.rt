@@ -4,10 +4,20 @@
 #![tactic(auto)]
 
 ghost use Rattle.std.specs.Prelude.{◌≡◌, ◌<◌, get_or, eqb};
-ghost use Rattle.notes.specs.Notes.{noted, left, read_as_lem, note_at};
+ghost use Rattle.notes.specs.Notes.{noted, left, read_as_lem, note_at, Known};
+
+use tables::Contract;
 
 // A byte for three places of an image of 65,536 bytes.
 pub const SIZE: usize = 21846;
+
+// A contract, and what its analysis noted of each access.
+#[derive(Clone, Copy)]
+pub struct Analysed<'a> {
+    pub contract: Contract<'a>,
+    pub notes: &'a [u8; SIZE],
+    pub ghost known: { Known contract.img.now contract.tables.now notes.now },
+}
 
 // Notes that the field of the access at p stands at position k.
 pub fn set(notes: &mut [u8], p: usize, k: usize)
@@ -35,13 +45,6 @@ pub fn all_noted(notes: &[u8; SIZE]) -> bool
     notes[SIZE - 1] == 0
 }
 
-// A byte as a number.
-fn wide(x: u8) -> usize
-    ensures { result ≡ x }
-{
-    x as usize
-}
-
 // What a byte says of the place p.
 fn read(p: usize, v: usize) -> Option<usize>
     ensures { result ≡ read_as_lem p v }
@@ -62,8 +65,18 @@ pub fn get(notes: &[u8], p: usize) -> Option<usize>
 {
     let i = p / 3;
     if i < notes.len() {
-        read(p, wide(notes[i]))
+        read(p, usize::from(notes[i]))
     } else {
         None
+    }
+}
+
+impl Analysed<'_> {
+    // The note of the access at p.
+    pub fn note(&self, p: usize) -> Option<usize>
+        ensures { result ≡ note_at self.now.notes.now p }
+    {
+        let notes = self.notes;
+        get(notes, p)
     }
 }

@@ -21,12 +21,9 @@ pub fn put(out: &mut [u8], n: usize, s: &[u8]) -> usize
     requires { n + length s.now ≤ length out.old }
     ensures { Lays n s.now out.old out.new result }
 {
-    let mut i = 0;
-    while i < s.len() {
-        out[n + i] = s[i];
-        i += 1;
-    }
-    n + s.len()
+    let end = n + s.len();
+    out[n..end].copy_from_slice(s);
+    end
 }
 
 // A number in decimal, so many digits at most.
@@ -69,10 +66,8 @@ pub fn put_hex(out: &mut [u8], n: usize, v: u64, left: usize) -> usize
     requires { n + left ≤ length out.old }
     ensures { Lays n (hex_digits left v) out.old out.new result }
 {
-    let mut i = left;
     let mut rest = v;
-    while 0 < i {
-        i -= 1;
+    for i in (0..left).rev() {
         out[n + i] = glyph(rest % 16);
         rest /= 16;
     }

@@ -3,3 +3,4 @@ pub mod Small
 pub mod Keys
 pub mod Places
 pub mod Cells
+pub mod Records

@@ -3,7 +3,9 @@
 
 ghost use Rattle.std.specs.Prelude.{◌≡◌, ◌+◌, ◌≤◌, ◌<◌, min, length};
 ghost use Rattle.rules.specs.Bytes.{byte_at, le32, le64, kind_at, inside, after, int_at, op_at, name_at, eq_name};
-ghost use Rattle.rules.specs.Read.{places_from};
+ghost use Rattle.rules.specs.Read.{places_from, places_in};
+ghost use Rattle.std.specs.Iterator.{YieldsFirst, item_count};
+ghost use Rattle.records.specs.Records.{places_left};
 ghost use Rattle.records.specs.Keys.{key_of};
 ghost use Rattle.records.specs.Cells.{place_in, number_in, Beside};
 
@@ -14,14 +16,7 @@ pub const NAMES: usize = 1025;
 fn byte(img: &[u8], i: usize) -> u64
     ensures { (result ≡ byte_at img.now i) × (result < 256) }
 {
-    if i < img.len() { img[i] as u64 } else { 0 }
-}
-
-// A byte as a number of 64 bits.
-fn wide(x: u8) -> u64
-    ensures { (result ≡ x) × (result < 256) }
-{
-    x as u64
+    if i < img.len() { u64::from(img[i]) } else { 0 }
 }
 
 // Four bytes that are there: one load.
@@ -29,7 +24,10 @@ fn word_in(img: &[u8], i: usize) -> u64
     requires { i + 4 ≤ length img.now }
     ensures { (result ≡ le32 img.now i) × (result < 4294967296) }
 {
-    wide(img[i]) + 256 * wide(img[i + 1]) + 65536 * wide(img[i + 2]) + 16777216 * wide(img[i + 3])
+    u64::from(img[i])
+        + 256 * u64::from(img[i + 1])
+        + 65536 * u64::from(img[i + 2])
+        + 16777216 * u64::from(img[i + 3])
 }
 
 // Eight.
@@ -38,13 +36,6 @@ pub fn eight_in(img: &[u8], i: usize) -> u64
     ensures { result ≡ le64 img.now i }
 {
     word_in(img, i) + 4294967296 * word_in(img, i + 4)
-}
-
-// The lesser of two.
-fn least(a: usize, b: usize) -> usize
-    ensures { result ≡ min a b }
-{
-    if a < b { a } else { b }
 }
 
 // The four bytes from i on where fewer are left: names are often as short.
@@ -56,15 +47,15 @@ fn few(img: &[u8], i: usize) -> u64
     if n == 0 {
         return 0;
     }
-    let a = wide(img[i]);
+    let a = u64::from(img[i]);
     if n == 1 {
         return a;
     }
-    let b = a + 256 * wide(img[i + 1]);
+    let b = a + 256 * u64::from(img[i + 1]);
     if n == 2 {
         return b;
     }
-    b + 65536 * wide(img[i + 2])
+    b + 65536 * u64::from(img[i + 2])
 }
 
 // The four bytes from i on, the lowest first.
@@ -72,7 +63,7 @@ pub fn word32(img: &[u8], i: usize) -> u64
     ensures { (result ≡ le32 img.now i) × (result < 4294967296) }
 {
     let n = img.len();
-    let j = least(i, n);
+    let j = i.min(n);
     if n - j < 4 {
         return few(img, j);
     }
@@ -96,10 +87,10 @@ pub fn kind(img: &[u8], i: usize) -> u64
     let n = img.len();
     if i < n {
         if 6 <= n - i {
-            return wide(img[i + 4]) + 256 * wide(img[i + 5]);
+            return u64::from(img[i + 4]) + 256 * u64::from(img[i + 5]);
         }
     }
-    kind_cut(img, least(i, n))
+    kind_cut(img, i.min(n))
 }
 
 // Where the payload of the record at i starts.
@@ -210,12 +201,10 @@ fn same_few(a: &[u8], b: &[u8]) -> bool
     requires { length a.now ≡ length b.now }
     ensures { result ≡ eq_name a.now b.now }
 {
-    let mut i = 0;
-    while i < a.len() {
+    for i in 0..a.len() {
         if a[i] != b[i] {
             return false;
         }
-        i += 1;
     }
     true
 }
@@ -273,7 +262,7 @@ pub fn name_key(img: &[u8], i: usize) -> usize
 pub fn within(img: &[u8], p: usize) -> usize
     ensures { (result ≤ length img.now) × ((name_at img.now result ≡ name_at img.now p) × (p ≤ length img.now → result ≡ p)) }
 {
-    least(p, img.len())
+    p.min(img.len())
 }
 
 // A place and a number in one cell of an array: 01's images have at most 65,536 bytes.
@@ -298,18 +287,54 @@ pub fn number_in(cell: usize) -> usize
     cell / 131072
 }
 
+// The records from a place up to an end, so many at most: the place of each.
+#[derive(Clone, Copy)]
+pub struct Records<'a> {
+    img: &'a [u8],
+    at: usize,
+    end: usize,
+    left: usize,
+}
+
+impl Iterator for Records<'_> {
+    type Item = usize;
+
+    ghost next_gives = { YieldsFirst places_left };
+
+    ghost remaining = { item_count places_left };
+
+    fn next(&mut self) -> Option<usize> {
+        if self.left == 0 || self.end <= self.at {
+            return None;
+        }
+        let place = self.at;
+        self.at = past(self.img, place);
+        self.left -= 1;
+        Some(place)
+    }
+}
+
+// The records of the List at l.
+pub fn list(img: &[u8], l: usize, most: usize) -> Records<'_>
+    ensures { places_left result ≡ places_in most img.now l }
+{
+    Records {
+        img,
+        at: body(img, l),
+        end: past(img, l),
+        left: most,
+    }
+}
+
 // How many records stand from `at` to `end`, `most` at most.
 pub fn count(img: &[u8], at: usize, end: usize, most: usize) -> usize
     ensures { result ≡ length (places_from most img.now at end) }
 {
-    let mut p = at;
-    let mut n = 0;
-    while n < most {
-        if end <= p {
-            return n;
-        }
-        p = past(img, p);
-        n += 1;
-    }
-    n
+    let records = Records {
+        img,
+        at,
+        end,
+        left: most,
+    };
+    records.count()
 }

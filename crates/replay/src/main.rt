@@ -77,21 +77,17 @@ fn times(x: u64) -> u64 {
 fn hashed_word(h: u64, w: u64) -> u64 {
     let mut x = h;
     let mut rest = w;
-    let mut i: usize = 0;
-    while i < 8 {
+    for _ in 0..8 {
         x = times(x ^ (rest % 256));
-        rest = rest / 256;
-        i += 1;
+        rest /= 256;
     }
     x
 }
 
 fn hashed(s: &[u64]) -> u64 {
     let mut h = START;
-    let mut i = 0;
-    while i < s.len() {
-        h = hashed_word(h, s[i]);
-        i += 1;
+    for w in s {
+        h = hashed_word(h, *w);
     }
     h
 }
@@ -101,13 +97,10 @@ fn hashed_entries(entries: [Entry; 256], n: usize) -> u64
     requires { n ≤ 256 }
 {
     let mut h = START;
-    let mut i = 0;
-    while i < n {
-        let e = entries[i];
+    for e in &entries[..n] {
         h = hashed_word(h, e.place);
         h = hashed_word(h, e.first);
         h = hashed_word(h, e.params);
-        i += 1;
     }
     h
 }
@@ -116,10 +109,8 @@ fn hashed_entries(entries: [Entry; 256], n: usize) -> u64
 fn hashed_rest(h: u64, rest: usize, refusal: u64) -> u64 {
     let w = if refusal == 0 { NUMBER } else { 0 };
     let mut x = h;
-    let mut i = 0;
-    while i < rest {
+    for _ in 0..rest {
         x = hashed_word(x, w);
-        i += 1;
     }
     x
 }
@@ -231,13 +222,11 @@ fn refused(case: Case, a: Answer) -> bool {
 
 // Whether the bytes are the stored text, and behind it what was lent.
 fn spelled(out: &[u8], stored: &[u8]) -> bool {
-    let mut i = 0;
-    while i < out.len() {
+    for i in 0..out.len() {
         let byte = if i < stored.len() { stored[i] } else { BYTE };
         if out[i] != byte {
             return false;
         }
-        i += 1;
     }
     true
 }
@@ -342,10 +331,8 @@ fn replay(rt: &impl Print, input: &mut impl Read, cases: u64) -> io::Result<()>
     requires { cases < 4294967296 }
 {
     let mut differ = 0;
-    let mut done = 0;
-    while done < cases {
-        differ = differ + replayed(input)?;
-        done += 1;
+    for done in 0..cases {
+        differ += replayed(input)?;
     }
     println!(rt; "{cases} cases, {differ} answers differ")
 }

@@ -18,6 +18,7 @@ use Rattle.expr.specs.Scope.{scope_in}
 use Rattle.expr.proofs.Walk.{args_full, args_end, args_more, inits_full, inits_end, inits_more}
 use Rattle.seek.specs.declared.Spot.{Spot}
 use Rattle.seek.specs.declared.Step.{Step}
+use Rattle.seek.specs.declared.Way.TheVariants as way
 use Rattle.seek.specs.Found.{Found, found_later, found_none}
 use Rattle.seek.specs.Spots.{told, owned, into, spot_in_lem, steps, args, inits, value_in, Counts, Finds, owns, goes, Listed, within, past, Steps}
 use Rattle.seek.specs.Parts.{into_first}
@@ -133,10 +134,10 @@ pub down_begin : {img scope : List ℕ} {R : Rules} {depth p : ℕ} {st : St} {e
 down_begin {img} {scope} {R} {depth} {p} {st} {end} {want} e = record { whole = λ a h. subst (λ (y : Step). Finds img scope R (expr_at depth img y.place) y.st y.to want a) e h }
 
 module _ {img scope : List ℕ} {R : Rules} {depth p : ℕ} {st : St} {end want d : ℕ} {t : Step} (h : Down img scope R depth p st end want d t) where
-  pub down_go : {e : ℕ} {u : Step} → (d ≡ 0 → ⊥) → e ≡ d - 1 → Steps img scope R e t.place t.st t.to want u → u.way ≡ 3 → Down img scope R depth p st end want e u
+  pub down_go : {e : ℕ} {u : Step} → (d ≡ 0 → ⊥) → e ≡ d - 1 → Steps img scope R e t.place t.st t.to want u → u.way ≡ way.Value → Down img scope R depth p st end want e u
   down_go {e} {u} z f l x = record { whole = λ a g. let q : suc e ≡ d = omega (arith, z, f) in h.whole a (record { found = rw q at (l.leads a (goes x g)) }) }
 
-  pub down_own : {e : ℕ} {u : Step} → (d ≡ 0 → ⊥) → e ≡ d - 1 → Steps img scope R e t.place t.st t.to want u → (u.way ≡ 3 → ⊥) → Finds img scope R (expr_at depth img p) st end want (spot_in_lem u)
+  pub down_own : {e : ℕ} {u : Step} → (d ≡ 0 → ⊥) → e ≡ d - 1 → Steps img scope R e t.place t.st t.to want u → (u.way ≡ way.Value → ⊥) → Finds img scope R (expr_at depth img p) st end want (spot_in_lem u)
   down_own {e} {u} z f l x = let q : suc e ≡ d = omega (arith, z, f) in h.whole (spot_in_lem u) (record { found = rw q at (l.leads (spot_in_lem u) (owns x refl)) })
 
   pub down_end : {a : Spot} → d ≡ 0 → Finds img scope R (expr_at depth img p) st end want a

@@ -32,24 +32,27 @@ use Rattle.expr.specs.Scope.{scope_in}
 use Rattle.expr.specs.Made.{args_at_lem}
 use Rattle.expr.specs.Names.{function_in}
 use Rattle.seek.specs.declared.Spot.{Spot}
+use denote.Enum.Declared.{tag_of}
+use Rattle.seek.specs.contracts.Way.{the_type}
 use Rattle.seek.specs.declared.Step.{Step}
+use Rattle.seek.specs.declared.Way.TheVariants as way
 use Rattle.seek.specs.Goes.{Goes, words_of, split, ran_goes, goes_then, goes_word, goes_words, goes_done}
 use Rattle.seek.specs.Found.{nth_later, some_same, Found, found_first, found_later, found_asked, Each, each_none, each_more, each_at, each_map, Own, found_own, own_say, own_done, own_asks, own_says, own_pick, Long, long_done, long_says, long_asks}
 use Rattle.seek.specs.Spots.{plain, called, spot_of, told, owned, calling, into, spot_in_lem, steps, args, inits, value_in, Counts, Saves, Finds, Ans, owns, goes, Row, Listed, Leads, Steps, Calls}
 use Rattle.seek.specs.Spots as spots
 
 module _ {img scope : List ℕ} {R : Rules} {d want : ℕ} where
-  pub deep : {r : Step} {a : Spot} → r.way ≡ 3 → Ans img scope R d want r a → Finds img scope R (expr_at d img r.place) r.st r.to want a
+  pub deep : {r : Step} {a : Spot} → r.way ≡ way.Value → Ans img scope R d want r a → Finds img scope R (expr_at d img r.place) r.st r.to want a
   deep e (owns f g) = absurd (f e)
   deep e (goes f g) = g
 
   pub stays : {p : ℕ} {s : St} {r : Step} {a : Spot} → r ≡ owned p s → Ans img scope R d want r a → plain p ≡ a
   stays e (owns f g) = sym (ap spot_in_lem e) ∙ g
-  stays e (goes f g) = absurd (omega (arith, sym (ap (λ (x : Step). x.way) e) ∙ f))
+  stays e (goes f g) = absurd (omega (arith, ap (tag_of the_type) (sym (ap (λ (x : Step). x.way) e) ∙ f)))
 
   pub makes_call : {p g : ℕ} {s : St} {r : Step} {a : Spot} → r ≡ calling p g s → Ans img scope R d want r a → called p g ≡ a
   makes_call e (owns f h) = sym (ap spot_in_lem e) ∙ h
-  makes_call e (goes f h) = absurd (omega (arith, sym (ap (λ (x : Step). x.way) e) ∙ f))
+  makes_call e (goes f h) = absurd (omega (arith, ap (tag_of the_type) (sym (ap (λ (x : Step). x.way) e) ∙ f)))
 
   pub into_first : {B : Type 0} {x end : ℕ} {st t : St} {r : Step} {a : Spot} → Counts img scope R d x st t → want < t.n → r ≡ into x t.n st → Ans img scope R d want r a
       → (k : AtReg → Res (Out B)) → Found (told img want) (steps img scope R (expr_at d img x) st >>= k) (tally st) end want a
@@ -315,13 +318,13 @@ module _ {img scope : List ℕ} {R : Rules} {d want end i : ℕ} {st : St} {r : 
   }
 
   -- the arguments
-  pub user_in : {k : ℕ} {b : St} → k ≡ st.next - 1 → Saves st k b → b.n ≤ want → r.way ≡ 3 → Listed img scope R d (args img scope R (args_at_lem d img i) st) i b want r → Calls img scope R d i st end want None r
+  pub user_in : {k : ℕ} {b : St} → k ≡ st.next - 1 → Saves st k b → b.n ≤ want → r.way ≡ way.Value → Listed img scope R d (args img scope R (args_at_lem d img i) st) i b want r → Calls img scope R d i st end want None r
   unfolding gen_call
   user_in q s l e (spots.within f g) = record { leads = λ a h. found_later (told img want) _ (saving i q s) l (g a h _ end) }
-  user_in q s l e (spots.past t f g) = absurd (omega (arith, sym (ap (λ (x : Step). x.way) f) ∙ e))
+  user_in q s l e (spots.past t f g) = absurd (omega (arith, ap (tag_of the_type) (sym (ap (λ (x : Step). x.way) f) ∙ e)))
 
   -- the Call
-  pub user_call : {k x g : ℕ} {b z : St} {w : Step} → k ≡ st.next - 1 → Saves st k b → b.n ≤ want → (w.way ≡ 3 → ⊥) → Listed img scope R d (args img scope R (args_at_lem d img i) st) i b want w
+  pub user_call : {k x g : ℕ} {b z : St} {w : Step} → k ≡ st.next - 1 → Saves st k b → b.n ≤ want → (w.way ≡ way.Value → ⊥) → Listed img scope R d (args img scope R (args_at_lem d img i) st) i b want w
       → eqb (want + k + 2) end ≡ true → x ≡ inside img i → g ≡ function_in img (name_at img x) → r ≡ calling i g z → Calls img scope R d i st end want None r
   unfolding gen_call spot_of
   user_call q s l n (spots.within f h) m e v c = absurd (n f)
@@ -333,7 +336,7 @@ module _ {img scope : List ℕ} {R : Rules} {d want end i : ℕ} {st : St} {r : 
   }
 
   -- and what stands around it
-  pub user_own : {k : ℕ} {b z : St} {w : Step} → k ≡ st.next - 1 → Saves st k b → b.n ≤ want → (w.way ≡ 3 → ⊥) → Listed img scope R d (args img scope R (args_at_lem d img i) st) i b want w
+  pub user_own : {k : ℕ} {b z : St} {w : Step} → k ≡ st.next - 1 → Saves st k b → b.n ≤ want → (w.way ≡ way.Value → ⊥) → Listed img scope R d (args img scope R (args_at_lem d img i) st) i b want w
       → eqb (want + k + 2) end ≡ false → r ≡ owned i z → Calls img scope R d i st end want None r
   unfolding gen_call
   user_own q s l n (spots.within f h) m c = absurd (n f)

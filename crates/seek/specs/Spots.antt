@@ -22,17 +22,18 @@ use Rattle.expr.specs.Scope.{scope_in}
 use Rattle.expr.specs.Made.{args_at_lem}
 use Rattle.seek.specs.declared.Spot.{Spot}
 use Rattle.seek.specs.declared.Step.{Step}
+use Rattle.seek.specs.declared.Way.TheVariants as way
 use Rattle.seek.specs.Goes.{Goes}
 use Rattle.seek.specs.Found.{Found}
 
 abbrev pub plain : ℕ → Spot
-plain p = record { place = p; way = 0; to = 0 }
+plain p = record { place = p; way = way.Plain; to = 0 }
 
 abbrev pub ahead : (place to : ℕ) → Spot
-ahead p t = record { place = p; way = 1; to = t }
+ahead p t = record { place = p; way = way.Ahead; to = t }
 
 abbrev pub called : (place function : ℕ) → Spot
-called p i = record { place = p; way = 2; to = i }
+called p i = record { place = p; way = way.Calls; to = i }
 
 -- 000: patch_jump, of the word at index i: a jump leads to a word, a call to the last function of its name
 unfoldable pub spot_of : Contract → (own : ℕ) → Open → Spot
@@ -46,16 +47,16 @@ told img i = spot_of (contract_at img) i
 
 -- own, jump, call, value
 abbrev pub owned : ℕ → St → Step
-owned p s = record { place = p; way = 0; to = 0; st = s }
+owned p s = record { place = p; way = way.Plain; to = 0; st = s }
 
 abbrev pub leaping : (place to : ℕ) → St → Step
-leaping p t s = record { place = p; way = 1; to = t; st = s }
+leaping p t s = record { place = p; way = way.Ahead; to = t; st = s }
 
 abbrev pub calling : (place function : ℕ) → St → Step
-calling p i s = record { place = p; way = 2; to = i; st = s }
+calling p i s = record { place = p; way = way.Calls; to = i; st = s }
 
 abbrev pub into : (place end : ℕ) → St → Step
-into p e s = record { place = p; way = 3; to = e; st = s }
+into p e s = record { place = p; way = way.Value; to = e; st = s }
 
 abbrev pub spot_in_lem : Step → Spot
 spot_in_lem r = record { place = r.place; way = r.way; to = r.to }
@@ -88,8 +89,8 @@ pub record Finds (img scope : List ℕ) (R : Rules) (e : Expr) (st : St) (end wa
   pub found : Found (told img want) (steps img scope R e st) (tally st) end want a
 
 pub data Ans (img scope : List ℕ) (R : Rules) (d want : ℕ) (r : Step) (a : Spot) : Type 0 where
-  owns : (r.way ≡ 3 → ⊥) → spot_in_lem r ≡ a → Ans img scope R d want r a
-  goes : r.way ≡ 3 → Finds img scope R (expr_at d img r.place) r.st r.to want a → Ans img scope R d want r a
+  owns : (r.way ≡ way.Value → ⊥) → spot_in_lem r ≡ a → Ans img scope R d want r a
+  goes : r.way ≡ way.Value → Finds img scope R (expr_at d img r.place) r.st r.to want a → Ans img scope R d want r a
 
 -- in_value
 pub data Row (img scope : List ℕ) (R : Rules) (d x p : ℕ) (st : St) (want : ℕ) (r : Step) : Type 0 where
@@ -102,7 +103,7 @@ Before img m st want a = (k : Regs → Res (Out AtReg)) (end : ℕ) → ((v : Re
 
 -- in_inits, in_args: in one of the values, whatever follows; or behind them all
 pub data Listed (img scope : List ℕ) (R : Rules) (d : ℕ) (m : Res (Out Regs)) (p : ℕ) (st : St) (want : ℕ) (r : Step) : Type 0 where
-  within : r.way ≡ 3 → ((a : Spot) → Ans img scope R d want r a → (k : Regs → Res (Out AtReg)) (end : ℕ) → Found (told img want) (m >>= k) (tally st) end want a) → Listed img scope R d m p st want r
+  within : r.way ≡ way.Value → ((a : Spot) → Ans img scope R d want r a → (k : Regs → Res (Out AtReg)) (end : ℕ) → Found (told img want) (m >>= k) (tally st) end want a) → Listed img scope R d m p st want r
   past : (s : St) → r ≡ owned p s → ((a : Spot) → Before img m st want a) → Listed img scope R d m p st want r
 
 -- in_binary, ..: from the record at i, taken as an expression of a kind, whose parts are d records deep at most

@@ -6,30 +6,31 @@
 
 ghost use Rattle.std.specs.Prelude.{◌≡◌, ◌+◌, eqb, None};
 ghost use Rattle.rules.specs.Read.{expr_at, exprs_from, inits_from, kMapping, kAccess, kLiteral, kBinary, kCall};
-ghost use Rattle.notes.specs.Notes.{Known};
 ghost use Rattle.expr.specs.Made.{args_at_lem};
 ghost use Rattle.seek.specs.Spots.{owned, leaping, calling, into, args, inits, Counts, Saves, Row, Listed, Leads, Steps, Calls, Finds};
 
 use emit::{Rules, St};
 use expr::names;
 use expr::names::Builtin;
+use notes::Analysed;
 
-// What a word is to its record: patched never, as a jump ahead, as a call of a function; or it lies in a part, an expression or a block.
-pub const PLAIN: u64 = 0;
-
-pub const AHEAD: u64 = 1;
-
-pub const CALLS: u64 = 2;
-
-pub const VALUE: u64 = 3;
-
-pub const BLOCK: u64 = 4;
+// What a word is to its record: patched never, as a jump ahead, as a call of a function; or it lies in a part, an expression, a List of
+// statements or a statement.
+#[derive(Clone, Copy, PartialEq, Eq)]
+pub enum Way {
+    Plain,
+    Ahead,
+    Calls,
+    Value,
+    Block,
+    Stmt,
+}
 
 // The record that a word is of; of a jump ahead the word that it leads to, of a call the function's index.
 #[derive(Clone, Copy)]
 pub struct Spot {
     pub place: usize,
-    pub way: u64,
+    pub way: Way,
     pub to: usize,
 }
 
@@ -37,7 +38,7 @@ pub struct Spot {
 #[derive(Clone, Copy)]
 pub struct Step {
     pub place: usize,
-    pub way: u64,
+    pub way: Way,
     pub to: usize,
     pub st: St,
 }
@@ -48,7 +49,7 @@ pub fn own(place: usize, st: St) -> Step
 {
     Step {
         place,
-        way: PLAIN,
+        way: Way::Plain,
         to: 0,
         st,
     }
@@ -60,7 +61,7 @@ pub fn jump(place: usize, to: usize, st: St) -> Step
 {
     Step {
         place,
-        way: AHEAD,
+        way: Way::Ahead,
         to,
         st,
     }
@@ -72,7 +73,7 @@ fn call(place: usize, function: usize, st: St) -> Step
 {
     Step {
         place,
-        way: CALLS,
+        way: Way::Calls,
         to: function,
         st,
     }
@@ -84,7 +85,7 @@ pub fn value(place: usize, end: usize, st: St) -> Step
 {
     Step {
         place,
-        way: VALUE,
+        way: Way::Value,
         to: end,
         st,
     }
@@ -92,30 +93,23 @@ pub fn value(place: usize, end: usize, st: St) -> Step
 
 // The state behind the expression at x.
 pub fn count_expr(
-    img: &[u8],
-    tables: &[usize],
-    notes: &[u8; notes::SIZE],
+    analysed: &Analysed<'_>,
     scope: &[usize],
     rules: Rules,
     d: usize,
     x: usize,
     st: St,
 ) -> St
-    requires { Known img.now tables.now notes.now }
-    ensures { Counts img.now scope.now rules d x st result }
+    ensures { Counts analysed.now.contract.img.now scope.now rules d x st result }
 {
     let mut code = [0u64; 1];
     let mut bytes = [0u8; 1];
-    expr::gen_expr(
-        &mut code, &mut bytes, img, tables, notes, scope, rules, d, x, st,
-    )
+    expr::gen_expr(&mut code, &mut bytes, analysed, scope, rules, d, x, st)
 }
 
 // Of one part, and the own words of the record at `at` behind it.
 pub fn in_value(
-    img: &[u8],
-    tables: &[usize],
-    notes: &[u8; notes::SIZE],
+    analysed: &Analysed<'_>,
     scope: &[usize],
     rules: Rules,
     d: usize,
@@ -124,10 +118,9 @@ pub fn in_value(
     st: St,
     want: usize,
 ) -> Step
-    requires { Known img.now tables.now notes.now }
-    ensures { Row img.now scope.now rules d x at st want result }
+    ensures { Row analysed.now.contract.img.now scope.now rules d x at st want result }
 {
-    let v = count_expr(img, tables, notes, scope, rules, d, x, st);
+    let v = count_expr(analysed, scope, rules, d, x, st);
     if want < v.n {
         return value(x, v.n, st);
     }
@@ -136,9 +129,7 @@ pub fn in_value(
 
 // Of a Binary.
 fn in_binary(
-    img: &[u8],
-    tables: &[usize],
-    notes: &[u8; notes::SIZE],
+    analysed: &Analysed<'_>,
     scope: &[usize],
     rules: Rules,
     d: usize,
@@ -147,24 +138,22 @@ fn in_binary(
     end: usize,
     want: usize,
 ) -> Step
-    requires { Known img.now tables.now notes.now }
-    ensures { Leads img.now scope.now rules d kBinary at st end want result }
+    ensures { Leads analysed.now.contract.img.now scope.now rules d kBinary at st end want result }
 {
+    let img = analysed.contract.img;
     let left = records::body(img, at);
     let op = records::past(img, left);
     let right = records::past(img, op);
-    let a = count_expr(img, tables, notes, scope, rules, d, left, st);
+    let a = count_expr(analysed, scope, rules, d, left, st);
     if want < a.n {
         return value(left, a.n, st);
     }
-    in_value(img, tables, notes, scope, rules, d, right, at, a, want)
+    in_value(analysed, scope, rules, d, right, at, a, want)
 }
 
 // Of a FieldAccess.
 fn in_field(
-    img: &[u8],
-    tables: &[usize],
-    notes: &[u8; notes::SIZE],
+    analysed: &Analysed<'_>,
     scope: &[usize],
     rules: Rules,
     d: usize,
@@ -173,18 +162,15 @@ fn in_field(
     end: usize,
     want: usize,
 ) -> Step
-    requires { Known img.now tables.now notes.now }
-    ensures { Leads img.now scope.now rules d kAccess at st end want result }
+    ensures { Leads analysed.now.contract.img.now scope.now rules d kAccess at st end want result }
 {
-    let base = records::body(img, at);
-    in_value(img, tables, notes, scope, rules, d, base, at, st, want)
+    let base = records::body(analysed.contract.img, at);
+    in_value(analysed, scope, rules, d, base, at, st, want)
 }
 
 // Of a MappingRead.
 fn in_mapping(
-    img: &[u8],
-    tables: &[usize],
-    notes: &[u8; notes::SIZE],
+    analysed: &Analysed<'_>,
     scope: &[usize],
     rules: Rules,
     d: usize,
@@ -193,18 +179,16 @@ fn in_mapping(
     end: usize,
     want: usize,
 ) -> Step
-    requires { Known img.now tables.now notes.now }
-    ensures { Leads img.now scope.now rules d kMapping at st end want result }
+    ensures { Leads analysed.now.contract.img.now scope.now rules d kMapping at st end want result }
 {
+    let img = analysed.contract.img;
     let key = records::past(img, records::body(img, at));
-    in_value(img, tables, notes, scope, rules, d, key, at, st, want)
+    in_value(analysed, scope, rules, d, key, at, st, want)
 }
 
 // Of the values of a StructLiteral, from the record at `first` to e, 64 at most; behind them the word is that of the literal at `at`.
 fn in_inits(
-    img: &[u8],
-    tables: &[usize],
-    notes: &[u8; notes::SIZE],
+    analysed: &Analysed<'_>,
     scope: &[usize],
     rules: Rules,
     d: usize,
@@ -214,33 +198,29 @@ fn in_inits(
     st: St,
     want: usize,
 ) -> Step
-    requires { Known img.now tables.now notes.now }
-    ensures { Listed img.now scope.now rules d (inits img.now scope.now rules (inits_from 64 (expr_at d img.now) img.now first e) st) at st want result }
+    ensures { Listed analysed.now.contract.img.now scope.now rules d (inits analysed.now.contract.img.now scope.now rules (inits_from 64 (expr_at d analysed.now.contract.img.now) analysed.now.contract.img.now first e) st) at st want result }
 {
+    let img = analysed.contract.img;
     let mut p = first;
     let mut s = st;
-    let mut i: usize = 0;
-    while i < 64 {
+    for _i in 0..64usize {
         if e <= p {
             return own(at, s);
         }
         let x = records::past(img, records::body(img, p));
-        let v = count_expr(img, tables, notes, scope, rules, d, x, s);
+        let v = count_expr(analysed, scope, rules, d, x, s);
         if want < v.n {
             return value(x, v.n, s);
         }
         s = v;
         p = records::past(img, p);
-        i += 1;
     }
     own(at, s)
 }
 
 // Of the arguments of a Call, from the record at `first` to e, 64 at most; behind them the word is that of the Call at `at`.
 fn in_args(
-    img: &[u8],
-    tables: &[usize],
-    notes: &[u8; notes::SIZE],
+    analysed: &Analysed<'_>,
     scope: &[usize],
     rules: Rules,
     d: usize,
@@ -250,32 +230,27 @@ fn in_args(
     st: St,
     want: usize,
 ) -> Step
-    requires { Known img.now tables.now notes.now }
-    ensures { Listed img.now scope.now rules d (args img.now scope.now rules (exprs_from 64 (expr_at d img.now) img.now first e) st) at st want result }
+    ensures { Listed analysed.now.contract.img.now scope.now rules d (args analysed.now.contract.img.now scope.now rules (exprs_from 64 (expr_at d analysed.now.contract.img.now) analysed.now.contract.img.now first e) st) at st want result }
 {
     let mut p = first;
     let mut s = st;
-    let mut i: usize = 0;
-    while i < 64 {
+    for _i in 0..64usize {
         if e <= p {
             return own(at, s);
         }
-        let v = count_expr(img, tables, notes, scope, rules, d, p, s);
+        let v = count_expr(analysed, scope, rules, d, p, s);
         if want < v.n {
             return value(p, v.n, s);
         }
         s = v;
-        p = records::past(img, p);
-        i += 1;
+        p = records::past(analysed.contract.img, p);
     }
     own(at, s)
 }
 
 // Of a StructLiteral: the pointer, the values, the rest.
 fn in_literal(
-    img: &[u8],
-    tables: &[usize],
-    notes: &[u8; notes::SIZE],
+    analysed: &Analysed<'_>,
     scope: &[usize],
     rules: Rules,
     d: usize,
@@ -284,9 +259,9 @@ fn in_literal(
     end: usize,
     want: usize,
 ) -> Step
-    requires { Known img.now tables.now notes.now }
-    ensures { Leads img.now scope.now rules d kLiteral at st end want result }
+    ensures { Leads analysed.now.contract.img.now scope.now rules d kLiteral at st end want result }
 {
+    let img = analysed.contract.img;
     let list = records::past(img, records::body(img, at));
     let p = records::body(img, list);
     let e = records::past(img, list);
@@ -295,14 +270,12 @@ fn in_literal(
     if want < q.n {
         return own(at, st);
     }
-    in_inits(img, tables, notes, scope, rules, d, p, e, at, q, want)
+    in_inits(analysed, scope, rules, d, p, e, at, q, want)
 }
 
 // Of the arguments of the Call at `at`, in the List behind its Name.
 fn in_list(
-    img: &[u8],
-    tables: &[usize],
-    notes: &[u8; notes::SIZE],
+    analysed: &Analysed<'_>,
     scope: &[usize],
     rules: Rules,
     d: usize,
@@ -310,13 +283,13 @@ fn in_list(
     st: St,
     want: usize,
 ) -> Step
-    requires { Known img.now tables.now notes.now }
-    ensures { Listed img.now scope.now rules d (args img.now scope.now rules (args_at_lem d img.now at) st) at st want result }
+    ensures { Listed analysed.now.contract.img.now scope.now rules d (args analysed.now.contract.img.now scope.now rules (args_at_lem d analysed.now.contract.img.now at) st) at st want result }
 {
+    let img = analysed.contract.img;
     let list = records::past(img, records::body(img, at));
     let p = records::body(img, list);
     let e = records::past(img, list);
-    in_args(img, tables, notes, scope, rules, d, p, e, at, st, want)
+    in_args(analysed, scope, rules, d, p, e, at, st, want)
 }
 
 // The state behind the saves of a call.
@@ -348,9 +321,7 @@ fn is_call(want: usize, k: u64, end: usize) -> bool
 
 // Of a call of a function: the registers in use, the arguments, Call, the result, the registers again.
 fn in_user(
-    img: &[u8],
-    tables: &[usize],
-    notes: &[u8; notes::SIZE],
+    analysed: &Analysed<'_>,
     scope: &[usize],
     rules: Rules,
     d: usize,
@@ -359,22 +330,21 @@ fn in_user(
     end: usize,
     want: usize,
 ) -> Step
-    requires { Known img.now tables.now notes.now }
-    ensures { Calls img.now scope.now rules d at st end want None result }
+    ensures { Calls analysed.now.contract.img.now scope.now rules d at st end want None result }
 {
     let k = emit::less_one(st.next);
     let a = saved(st, k);
     if want < a.n {
         return own(at, st);
     }
-    let r = in_list(img, tables, notes, scope, rules, d, at, a, want);
-    if r.way == VALUE {
+    let r = in_list(analysed, scope, rules, d, at, a, want);
+    if r.way == Way::Value {
         return r;
     }
     if is_call(want, k, end) {
         return call(
             at,
-            names::function_index(img, tables, records::body(img, at)),
+            names::function_index(&analysed.contract, records::body(analysed.contract.img, at)),
             st,
         );
     }
@@ -383,9 +353,7 @@ fn in_user(
 
 // Of a Call.
 fn in_call(
-    img: &[u8],
-    tables: &[usize],
-    notes: &[u8; notes::SIZE],
+    analysed: &Analysed<'_>,
     scope: &[usize],
     rules: Rules,
     d: usize,
@@ -394,23 +362,21 @@ fn in_call(
     end: usize,
     want: usize,
 ) -> Step
-    requires { Known img.now tables.now notes.now }
-    ensures { Leads img.now scope.now rules d kCall at st end want result }
+    ensures { Leads analysed.now.contract.img.now scope.now rules d kCall at st end want result }
 {
+    let img = analysed.contract.img;
     match names::builtin_named(img, records::body(img, at)) {
         Some(Builtin::Poseidon | Builtin::Merkle) => in_list(
-            img, tables, notes, scope, rules, d, at, st, want,
+            analysed, scope, rules, d, at, st, want,
         ),
         Some(Builtin::Sender | Builtin::Nonce | Builtin::BlockNumber) => own(at, st),
-        None => in_user(img, tables, notes, scope, rules, d, at, st, end, want),
+        None => in_user(analysed, scope, rules, d, at, st, end, want),
     }
 }
 
 // From the expression at `at`, whose parts are d records deep at most, to the part that the word lies in.
 fn step_expr(
-    img: &[u8],
-    tables: &[usize],
-    notes: &[u8; notes::SIZE],
+    analysed: &Analysed<'_>,
     scope: &[usize],
     rules: Rules,
     d: usize,
@@ -419,24 +385,21 @@ fn step_expr(
     end: usize,
     want: usize,
 ) -> Step
-    requires { Known img.now tables.now notes.now }
-    ensures { Steps img.now scope.now rules d at st end want result }
+    ensures { Steps analysed.now.contract.img.now scope.now rules d at st end want result }
 {
-    match records::kind(img, at) {
-        67 => in_mapping(img, tables, notes, scope, rules, d, at, st, end, want),
-        68 => in_field(img, tables, notes, scope, rules, d, at, st, end, want),
-        69 => in_literal(img, tables, notes, scope, rules, d, at, st, end, want),
-        70 => in_binary(img, tables, notes, scope, rules, d, at, st, end, want),
-        71 => in_call(img, tables, notes, scope, rules, d, at, st, end, want),
+    match records::kind(analysed.contract.img, at) {
+        67 => in_mapping(analysed, scope, rules, d, at, st, end, want),
+        68 => in_field(analysed, scope, rules, d, at, st, end, want),
+        69 => in_literal(analysed, scope, rules, d, at, st, end, want),
+        70 => in_binary(analysed, scope, rules, d, at, st, end, want),
+        71 => in_call(analysed, scope, rules, d, at, st, end, want),
         _ => own(at, st),
     }
 }
 
 // The record that the word is of, in the expression at `at`.
 pub fn find_expr(
-    img: &[u8],
-    tables: &[usize],
-    notes: &[u8; notes::SIZE],
+    analysed: &Analysed<'_>,
     scope: &[usize],
     rules: Rules,
     depth: usize,
@@ -445,17 +408,12 @@ pub fn find_expr(
     end: usize,
     want: usize,
 ) -> Spot
-    requires { Known img.now tables.now notes.now }
-    ensures { Finds img.now scope.now rules (expr_at depth img.now at) st end want result }
+    ensures { Finds analysed.now.contract.img.now scope.now rules (expr_at depth analysed.now.contract.img.now at) st end want result }
 {
-    let mut d = depth;
     let mut t = value(at, end, st);
-    while d != 0 {
-        d -= 1;
-        t = step_expr(
-            img, tables, notes, scope, rules, d, t.place, t.st, t.to, want,
-        );
-        if t.way != VALUE {
+    for d in (0..depth).rev() {
+        t = step_expr(analysed, scope, rules, d, t.place, t.st, t.to, want);
+        if t.way != Way::Value {
             return Spot {
                 place: t.place,
                 way: t.way,
@@ -465,7 +423,7 @@ pub fn find_expr(
     }
     Spot {
         place: t.place,
-        way: PLAIN,
+        way: Way::Plain,
         to: 0,
     }
 }

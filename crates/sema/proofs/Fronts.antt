@@ -16,7 +16,7 @@ use Rattle.rules.specs.Read.{contract_at}
 use Rattle.rules.specs.Refusal.{ok, bad, ◌>>=◌, answer, refused}
 use Rattle.rules.specs.Analyse.{analyse}
 use Rattle.rules.specs.Ambiguous.{first_ambiguous_lem}
-use Rattle.rules.specs.Build.{passed, clear, analysed, judged, analysis_answer}
+use Rattle.rules.specs.Build.{passed, clear, analysed, judged}
 use Rattle.rules.specs.Meant.{accesses}
 use Rattle.tables.specs.Listed.{Tabled}
 use Rattle.notes.specs.Notes.{written, Blank, Wrote}

@@ -1,5 +1,6 @@
 -- How the steps of statements are put together.
 use Rattle.std.specs.Prelude.{Err, Ok, Result}
+use mathlib.Core.Bool.{Bool, true, false}
 use mathlib.Core.List.{List, [], ◌++◌}
 use mathlib.Core.Path.{◌≡◌, refl, sym, ap, ◌∙◌}
 use Prim.Native.Nat.{ℕ, ◌+◌, ◌*◌, ◌≤◌, ◌<◌}
@@ -7,7 +8,7 @@ use native.Mathlib.Omega.{arith}
 use lib.ListN.{get_or}
 use Rattle.rules.specs.Bytes.{name_at}
 use Rattle.rules.specs.Types.{Env, with_name}
-use Rattle.rules.specs.Refusal.{Res, ok, bad, ◌>>=◌}
+use Rattle.rules.specs.Refusal.{Refusal, Res, ok, bad, ◌>>=◌, unless}
 use Rattle.rules.specs.Meant.{Access, behind}
 use Rattle.rules.specs.Read.{contract_at}
 use Rattle.notes.specs.Notes.{written}
@@ -53,6 +54,17 @@ module _ {A : Type 0} {img e N N₁ : List ℕ} {top m : ℕ} {E : Res A} {a : A
 
 pub first_bad : {A : Type 0} {img e N N' : List ℕ} {top m : ℕ} {f : Fault} {E : Res A} {l : List Access} (K : A → Res Env) → bad (fault_of img f) ≡ E → Stepped img e e N N' top m (Err f) (E >>= K) l
 first_bad K h = still_bad (then_bad K h)
+
+-- behind a test
+pub fit_ok : {A : Type 0} (b : Bool) (r : Refusal) (a : A) → ◌≡◌ {A = Res (Unit {0})} (ok tt) (unless b r tt) → ok a ≡ unless b r a
+unfolding unless
+fit_ok true r a h = absurd (let z : ◌≡◌ {A = ℕ} 0 1 = cc in omega arith)
+fit_ok false r a h = refl
+
+pub fit_bad : {A : Type 0} (b : Bool) (r : Refusal) {q : Refusal} (a : A) → ◌≡◌ {A = Res (Unit {0})} (bad q) (unless b r tt) → bad q ≡ unless b r a
+unfolding unless
+fit_bad true r a h = cc
+fit_bad false r a h = absurd (let z : ◌≡◌ {A = ℕ} 0 1 = cc in omega arith)
 
 within_chain : (a b c d : ℕ) (r : Result ℕ Fault) → a ≤ b → c ≤ d → Within b c r → Within a d r
 unfolding Within

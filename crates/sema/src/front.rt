@@ -10,7 +10,9 @@ ghost use Rattle.sema.specs.Front.{refused_of, judged_of, spotted, Judges};
 ghost use Rattle.rules.specs.Refusal.{refused};
 
 use lookup::Fault;
+use notes::Analysed;
 use rules::{Answer, Seen};
+use tables::Contract;
 
 // Rows 1 to 7: number and place. Rows 10 to 22. Row 30: its place.
 #[derive(Clone, Copy)]
@@ -26,9 +28,9 @@ impl Refused {
         ensures { (img : List ℕ) → result ≡ refused (refused_of img self) }
     {
         match self {
-            Refused::Image(number, place) => crate::answer_at(number as u64, place),
+            Refused::Image(number, place) => Answer::of(number as u64, place, 0),
             Refused::Analysis(fault) => crate::refusal(fault),
-            Refused::Ambiguous(place) => crate::answer_at(30, place),
+            Refused::Ambiguous(place) => Answer::of(30, place, 0),
         }
     }
 }
@@ -44,7 +46,8 @@ fn behind_check(
     ensures { Judges image.now (analysed image.now) tables.new notes.new result }
 {
     tables::fill_tables(tables, image);
-    crate::analyse_checked(names, notes, image, tables).map_err(Refused::Analysis)
+    let contract = Contract { img: image, tables };
+    crate::analyse_checked(names, notes, &contract).map_err(Refused::Analysis)
 }
 
 // 01: image, analysis
@@ -64,16 +67,17 @@ pub(crate) fn analysis(
 }
 
 // 01: row 30. The analysis is over, so that its names serve once more as a table of fields.
-fn ambiguity(
+fn ambiguity<'a>(
     names: &mut [usize; records::NAMES],
-    image: &[u8],
-    tables: &[usize],
-    notes: &[u8; notes::SIZE],
+    image: &'a [u8],
+    tables: &'a [usize],
+    notes: &'a [u8; notes::SIZE],
 ) -> Result<(), Refused>
     requires { Known image.now tables.now notes.now }
     ensures { result ≡ spotted (first_ambiguous_lem (contract_at image.now)) }
 {
-    match ambiguous::first_ambiguous(names, image, tables, notes) {
+    let contract = Contract { img: image, tables };
+    match ambiguous::first_ambiguous(names, &Analysed { contract, notes }) {
         Some(place) => Err(Refused::Ambiguous(place)),
         None => Ok(()),
     }
@@ -98,7 +102,7 @@ pub fn answer_of(judged: Result<(), Refused>) -> Answer
     ensures { (img : List ℕ) → result ≡ analysis_answer (judged_of img judged) }
 {
     match judged {
-        Ok(()) => crate::answer_at(0, 0),
+        Ok(()) => Answer::of(0, 0, 0),
         Err(refused) => refused.answer(),
     }
 }

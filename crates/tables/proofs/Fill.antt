@@ -1,5 +1,4 @@
 -- A List's records listed one after the other.
---     clear_none, clear_more     no head cleared yet, one head more
 --     Stored, stored     a record's cell and its bucket's head stored
 --     Filled     the first n of the places ps are listed, and nothing below base has changed
 --     begin, put, done     nothing listed yet, one record more, the count stored
@@ -17,7 +16,7 @@ use lib.Seq.{get_or-set_same, get_or-set_other}
 use Rattle.rules.specs.Read.{name_in}
 use Rattle.records.specs.Keys.{key_of}
 use Rattle.records.specs.Cells.{place_in, number_in, Beside}
-use Rattle.tables.specs.Listed.{bucket_in, Newest, Listed, Above, Cleared}
+use Rattle.tables.specs.Listed.{bucket_in, Newest, Listed, Above}
 
 -- a fact for each index below n, and for n
 one_more : (P : ℕ → Type 0) (n : ℕ) → ((i : ℕ) → i < n → P i) → P n → (i : ℕ) → i < n + 1 → P i
@@ -32,17 +31,6 @@ above_set : (t₀ t : List ℕ) (base a v : ℕ) → base ≤ a → Above t₀ t
 above_set t₀ t base a v h u = record {
   size = length-set t a v ∙ u.size;
   below = λ j l. get_or-set_other t a j v 0 (omega arith) ∙ u.below j l;
-}
-
-pub clear_none : (t : List ℕ) (base : ℕ) → Cleared t t base 0
-clear_none t base = record { above = record { size = refl; below = λ j h. refl }; heads = λ b h. absurd (omega arith) }
-
-pub clear_more : (t₀ t : List ℕ) (base b : ℕ) → base + 1 + b < length t → Cleared t₀ t base b → Cleared t₀ (set t (base + 1 + b) 0) base (b + 1)
-clear_more t₀ t base b room c = record {
-  above = above_set t₀ t base (base + 1 + b) 0 (omega arith) c.above;
-  heads = one_more (λ i. get_or (set t (base + 1 + b) 0) (base + 1 + i) 0 ≡ 0) b
-      (λ i h. get_or-set_other t (base + 1 + b) (base + 1 + i) 0 0 (omega arith) ∙ c.heads i h)
-      (get_or-set_same t (base + 1 + b) 0 0 room);
 }
 
 -- a record's cell at a, with what its bucket's head at h was, and m at h

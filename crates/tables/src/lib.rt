@@ -15,6 +15,14 @@ const STORAGE: usize = 444;
 
 pub const SIZE: usize = 762;
 
+// An image of a contract, and where its functions, structs and storage fields stand.
+#[derive(Clone, Copy)]
+pub struct Contract<'a> {
+    pub img: &'a [u8],
+    pub tables: &'a [usize],
+    pub ghost tabled: { Tabled img.now tables.now },
+}
+
 // The last record of a name: its index in its List and its place.
 #[derive(Clone, Copy)]
 pub struct Found {
@@ -27,11 +35,7 @@ fn clear_heads(t: &mut [usize], base: usize)
     requires { base + 62 ≤ length t.old }
     ensures { Cleared t.old t.new base 61 }
 {
-    let mut b: usize = 0;
-    while b < 61 {
-        t[base + 1 + b] = 0;
-        b += 1;
-    }
+    t[base + 1..base + 62].fill(0);
 }
 
 // Lists the records of the List at l, `most` of them at most.
@@ -40,15 +44,12 @@ fn fill_list(t: &mut [usize], base: usize, most: usize, img: &[u8], l: usize)
     ensures { Listed img.now t.new base (places_in most img.now l) × Above t.old t.new base }
 {
     clear_heads(t, base);
-    let end = records::past(img, l);
-    let mut p = records::body(img, l);
     let mut n = 0;
-    while n < most && p < end {
+    for p in records::list(img, l, most) {
         let key = records::name_key(img, records::body(img, p));
         let head = base + 1 + key % 61;
         t[base + 62 + n] = records::beside(img, p, t[head]);
         t[head] = n + 1;
-        p = records::past(img, p);
         n += 1;
     }
     t[base] = n;
@@ -84,30 +85,6 @@ fn last_named(img: &[u8], t: &[usize], base: usize, x: usize) -> Option<Found>
         k = records::number_in(cell);
     }
     None
-}
-
-// The last function with the name at x (000: functions.get).
-pub fn function_named(img: &[u8], t: &[usize], x: usize) -> Option<Found>
-    requires { Tabled img.now t.now }
-    ensures { Named img.now x (functions_in img.now) result }
-{
-    last_named(img, t, FUNCTIONS, x)
-}
-
-// The last struct with the name at x (001: structs.get).
-pub fn struct_named(img: &[u8], t: &[usize], x: usize) -> Option<Found>
-    requires { Tabled img.now t.now }
-    ensures { Named img.now x (structs_in img.now) result }
-{
-    last_named(img, t, STRUCTS, x)
-}
-
-// The last storage field with the name at x (000: storage_map.get).
-pub fn storage_named(img: &[u8], t: &[usize], x: usize) -> Option<Found>
-    requires { Tabled img.now t.now }
-    ensures { Named img.now x (storage_in img.now) result }
-{
-    last_named(img, t, STORAGE, x)
 }
 
 // The cell at i, 0 past the end.
@@ -155,4 +132,51 @@ pub fn struct_place(t: &[usize], i: usize) -> usize
     ensures { (img : List ℕ) → Tabled img t.now → i < length (structs_in img) → result ≡ get_or (structs_in img) i 0 }
 {
     place_at(t, STRUCTS, i)
+}
+
+impl Contract<'_> {
+    // The last function with the name at x (000: functions.get).
+    pub fn function_named(&self, x: usize) -> Option<Found>
+        ensures { Named self.now.img.now x (functions_in self.now.img.now) result }
+    {
+        last_named(self.img, self.tables, FUNCTIONS, x)
+    }
+
+    // The last struct with the name at x (001: structs.get).
+    pub fn struct_named(&self, x: usize) -> Option<Found>
+        ensures { Named self.now.img.now x (structs_in self.now.img.now) result }
+    {
+        last_named(self.img, self.tables, STRUCTS, x)
+    }
+
+    // The last storage field with the name at x (000: storage_map.get).
+    pub fn storage_named(&self, x: usize) -> Option<Found>
+        ensures { Named self.now.img.now x (storage_in self.now.img.now) result }
+    {
+        last_named(self.img, self.tables, STORAGE, x)
+    }
+
+    pub fn function_count(&self) -> usize
+        ensures { result ≡ length (functions_in self.now.img.now) }
+    {
+        function_count(self.tables)
+    }
+
+    pub fn struct_count(&self) -> usize
+        ensures { result ≡ length (structs_in self.now.img.now) }
+    {
+        struct_count(self.tables)
+    }
+
+    pub fn function_place(&self, i: usize) -> usize
+        ensures { i < length (functions_in self.now.img.now) → result ≡ get_or (functions_in self.now.img.now) i 0 }
+    {
+        function_place(self.tables, i)
+    }
+
+    pub fn struct_place(&self, i: usize) -> usize
+        ensures { i < length (structs_in self.now.img.now) → result ≡ get_or (structs_in self.now.img.now) i 0 }
+    {
+        struct_place(self.tables, i)
+    }
 }

@@ -22,9 +22,8 @@ fn told(a: Answer, count: usize) -> Answer
     ensures { result ≡ answer a.refusal a.place count }
 {
     Answer {
-        refusal: a.refusal,
-        place: a.place,
         count: count as u64,
+        ..a
     }
 }
 
@@ -80,11 +79,7 @@ pub fn text(image: &[u8], out: &mut [u8]) -> Answer
     ensures { (result ≡ text_answer image.now out.old) × (out.new ≡ text_bytes image.now out.old) }
 {
     if out.len() < 256 {
-        return Answer {
-            refusal: 52,
-            place: 0,
-            count: 0,
-        };
+        return Answer::of(52, 0, 0);
     }
     let mut tables = [0usize; tables::SIZE];
     let mut names = [0usize; records::NAMES];

@@ -29,7 +29,10 @@ use Rattle.stmt.proofs.Names.{put_back, fewer}
 use Rattle.stmt.proofs.Lists.{goes_on, exprs_none, exprs_more, stmts_none, stmts_more}
 use Rattle.stmt.proofs.Trees.{other}
 use Rattle.seek.specs.declared.Spot.{Spot}
+use denote.Enum.Declared.{tag_of}
+use Rattle.seek.specs.contracts.Way.{the_type}
 use Rattle.seek.specs.declared.Step.{Step}
+use Rattle.seek.specs.declared.Way.TheVariants as way
 use Rattle.seek.specs.Goes.{Goes, ran_goes, goes_word}
 use Rattle.seek.specs.Found.{Found, found_first, found_later, found_none, each_none, each_more, Own, found_own, own_say, own_done, own_then, long_done}
 use Rattle.seek.specs.Spots.{plain, spot_of, told, owned, into, Counts}
@@ -66,7 +69,7 @@ module _ {img s : List ℕ} {R : Rules} {d i e p₀ : ℕ} {st : St} {want p : �
     unfolding gen_logs
     logs_in c b q = record {
       leads = λ a h. emits_in img s R d i st hl hp he a end (L.all_of a end (rw (exprs_more img (expr_at d img) 65536 p e more fits (omega arith)) (into_first c b q (ends_into q h) _)));
-      ready = λ y. absurd (omega (arith, sym (ap (λ (x : Step). x.way) q) ∙ y));
+      ready = λ y. absurd (omega (arith, ap (tag_of the_type) (sym (ap (λ (x : Step). x.way) q) ∙ y)));
     }
 
     pub logs_own : {v y j : St} → Counts img s R d p z v → v.n ≤ want → Keeps v y → want < y.n → r ≡ owned i j → Moves img t N s s R d sEmit i st end want r
@@ -74,7 +77,7 @@ module _ {img s : List ℕ} {R : Rules} {d i e p₀ : ℕ} {st : St} {want p : �
     logs_own c b k m q = record {
       leads = λ a h. is_found (stays q h) (emits_in img s R d i st hl hp he (plain i) end (L.all_of (plain i) end (rw (exprs_more img (expr_at d img) 65536 p e more fits (omega arith))
           (found_later (told img want) _ c.goes b (found_first (told img want) _ (goes_word _ k.reserved) m (found_own (own_say (each_more _ _ refl each_none))))))));
-      ready = λ y. absurd (omega (arith, sym (ap (λ (x : Step). x.way) q) ∙ y));
+      ready = λ y. absurd (omega (arith, ap (tag_of the_type) (sym (ap (λ (x : Step). x.way) q) ∙ y)));
     }
 
 pub logs_end : {img t N s : List ℕ} {R : Rules} {d i l e p₀ : ℕ} {st : St} {want p end : ℕ} {z j : St} {r : Step} → Logs img s R d i e p₀ st want p z → l ≡ second img i → p₀ ≡ inside img l → e ≡ after img l → e ≤ p
@@ -82,7 +85,7 @@ pub logs_end : {img t N s : List ℕ} {R : Rules} {d i l e p₀ : ℕ} {st : St}
 unfolding gen_logs
 logs_end {img} {t} {N} {s} {R} {d} {i} {l} {e} {p₀} {st} {want} {p} {end} L hl hp he b q = record {
   leads = λ a h. emits_in img s R d i st hl hp he a end (L.all_of a end (rw (exprs_none img (expr_at d img) 65536 p e b) (found_none _)));
-  ready = λ y. absurd (omega (arith, sym (ap (λ (x : Step). x.way) q) ∙ y));
+  ready = λ y. absurd (omega (arith, ap (tag_of the_type) (sym (ap (λ (x : Step). x.way) q) ∙ y)));
 }
 
 -- The statements of a List from the one at p on, and there is room for their names.
@@ -145,8 +148,8 @@ pub rest_end : {img t N s₀ : List ℕ} {R : Rules} {d e p₀ : ℕ} {st : St} 
     → r ≡ owned l j → Reaches img t N s₀ s R d l st end want r
 unfolding gen_stmts_lem
 rest_end {img} {t} {N} {s₀} {R} {d} {e} {p₀} {st} {want} {s} {p} {l} {end} L hp he b q = record {
-  leads = λ a w h. absurd (omega (arith, sym (ap (λ (x : Step). x.way) q) ∙ w));
-  ready = λ w. absurd (omega (arith, sym (ap (λ (x : Step). x.way) q) ∙ w));
+  leads = λ a w h. absurd (omega (arith, ap (tag_of the_type) (sym (ap (λ (x : Step). x.way) q) ∙ w)));
+  ready = λ w. absurd (omega (arith, ap (tag_of the_type) (sym (ap (λ (x : Step). x.way) q) ∙ w)));
   absent = λ a w. record { found = rw (← hp, ← he) (L.all_of a end (rw (stmts_none img (stmt_at_lem d img) 65536 p e b) (found_none _))) };
 }
 
@@ -195,7 +198,7 @@ pub kind_own : {img t N s : List ℕ} {R : Rules} {d i k : ℕ} {st j : St} {end
 unfolding stmt_as gen_stmt_lem
 kind_own {img} {t} {N} {s} {R} {d} {i} {k} e a b c f g h m n o p q z = kind_in img d i sOther e (other k a b c f g h m n o p q) (record {
   leads = λ a h. found_none _;
-  ready = λ y. absurd (omega (arith, sym (ap (λ (x : Step). x.way) z) ∙ y));
+  ready = λ y. absurd (omega (arith, ap (tag_of the_type) (sym (ap (λ (x : Step). x.way) z) ∙ y)));
 })
 
 -- With no depth left there is no word.
@@ -222,16 +225,16 @@ down_begin {img} {t} {N} {s} {R} {depth} {l} {st} {end} {want} h e = record {
 }
 
 -- Room for the names of the statement that was reached.
-pub falls_ready : {img t N s s₁ : List ℕ} {R : Rules} {d l : ℕ} {st : St} {end want e : ℕ} {x : Step} → Reaches img t N s s₁ R d l st end want x → (d ≡ 0 → ⊥) → e ≡ d - 1 → x.way ≡ 5
+pub falls_ready : {img t N s s₁ : List ℕ} {R : Rules} {d l : ℕ} {st : St} {end want e : ℕ} {x : Step} → Reaches img t N s s₁ R d l st end want x → (d ≡ 0 → ⊥) → e ≡ d - 1 → x.way ≡ way.Stmt
     → Ready img t N s₁ (vars (stmt_at_lem (suc e) img x.place))
 falls_ready {d = d} {e = e} g z f w = let q : suc e ≡ d = omega (arith, z, f) in rw q (g.ready w)
 
 -- One step down from the List that b leads to, by its statement.
 module _ {img t N s s₁ : List ℕ} {R : Rules} {d : ℕ} {b x : Step} {want : ℕ} (g : Reaches img t N s s₁ R d b.place b.st b.to want x) where
-  pub falls_absent : {u : Step} {y : St} {p : ℕ} → (x.way ≡ 5 → ⊥) → u ≡ owned p y → Falls img t N s s₁ R d b want u
-  falls_absent w e = record { leads = λ a k. g.absent a w; ready = λ q. absurd (omega (arith, sym (ap (λ (x : Step). x.way) e) ∙ q)) }
+  pub falls_absent : {u : Step} {y : St} {p : ℕ} → (x.way ≡ way.Stmt → ⊥) → u ≡ owned p y → Falls img t N s s₁ R d b want u
+  falls_absent w e = record { leads = λ a k. g.absent a w; ready = λ q. absurd (omega (arith, ap (tag_of the_type) (sym (ap (λ (x : Step). x.way) e) ∙ q))) }
 
-  pub falls_in : {e : ℕ} {s₂ : List ℕ} {u : Step} → (d ≡ 0 → ⊥) → e ≡ d - 1 → x.way ≡ 5 → Steps img t N s₁ s₂ R e x.place x.st x.to want u → Falls img t N s s₂ R d b want u
+  pub falls_in : {e : ℕ} {s₂ : List ℕ} {u : Step} → (d ≡ 0 → ⊥) → e ≡ d - 1 → x.way ≡ way.Stmt → Steps img t N s₁ s₂ R e x.place x.st x.to want u → Falls img t N s s₂ R d b want u
   falls_in {e} z f w h = record {
     leads = λ a k. let q : suc e ≡ d = omega (arith, z, f) in g.leads a w (rw q at (h.leads a (rw (← f) at k)));
     ready = λ v. rw (← f) (h.ready v);
@@ -245,5 +248,5 @@ module _ {img t N s₀ : List ℕ} {R : Rules} {depth l : ℕ} {st : St} {end wa
     pub down_settled : {e : ℕ} {a : Spot} → e ≡ d - 1 → Ends img s₂ R e want u a → Blocks img s₀ R depth l st end want a
     down_settled {e} {a} g k = D.whole a (f.leads a (rw g at k))
 
-    pub down_go : {e : ℕ} → e ≡ d - 1 → u.way ≡ 4 → length s₂ ≡ length s → Down img t N s₀ R depth l st end want s₂ e u
+    pub down_go : {e : ℕ} → e ≡ d - 1 → u.way ≡ way.Block → length s₂ ≡ length s → Down img t N s₀ R depth l st end want s₂ e u
     down_go {e} g v m = record { whole = λ a k. D.whole a (f.leads a (rw g at (block v k))); ready = rw g (f.ready v); long = m ∙ D.long }

@@ -18,16 +18,17 @@ use Rattle.stmt.specs.Frame.{Ready, Frame}
 use Rattle.stmt.specs.Runs.{here, taken, Opens}
 use Rattle.seek.specs.declared.Spot.{Spot}
 use Rattle.seek.specs.declared.Step.{Step}
+use Rattle.seek.specs.declared.Way.TheVariants as way
 use Rattle.seek.specs.Goes.{Goes}
 use Rattle.seek.specs.Found.{Found}
 use Rattle.seek.specs.Spots.{told, owned, leaping, spot_in_lem, Finds}
 
 -- block, stmt_at
 abbrev pub entering : (list end : ℕ) → St → Step
-entering l e s = record { place = l; way = 4; to = e; st = s }
+entering l e s = record { place = l; way = way.Block; to = e; st = s }
 
 abbrev pub within : (place end : ℕ) → St → Step
-within p e s = record { place = p; way = 5; to = e; st = s }
+within p e s = record { place = p; way = way.Stmt; to = e; st = s }
 
 -- count_stmt
 pub record Counted (R : Rules) (img : List ℕ) (d i : ℕ) (st : St) (s : List ℕ) (r : St) (s' : List ℕ) : Type 0 where
@@ -50,9 +51,9 @@ pub record Blocks (img s : List ℕ) (R : Rules) (d l : ℕ) (st : St) (end want
   pub found : Found (told img want) (gen_stmts_lem (rules_of R) (contract_at img) (body_at (stmt_at_lem d img) img l) (scope_in img s) st.next) (tally st) end want a
 
 pub data Ends (img s : List ℕ) (R : Rules) (d want : ℕ) (r : Step) (a : Spot) : Type 0 where
-  owns : (r.way ≡ 3 → ⊥) → (r.way ≡ 4 → ⊥) → spot_in_lem r ≡ a → Ends img s R d want r a
-  value : r.way ≡ 3 → Finds img s R (expr_at d img r.place) r.st r.to want a → Ends img s R d want r a
-  block : r.way ≡ 4 → Blocks img s R d r.place r.st r.to want a → Ends img s R d want r a
+  owns : (r.way ≡ way.Value → ⊥) → (r.way ≡ way.Block → ⊥) → spot_in_lem r ≡ a → Ends img s R d want r a
+  value : r.way ≡ way.Value → Finds img s R (expr_at d img r.place) r.st r.to want a → Ends img s R d want r a
+  block : r.way ≡ way.Block → Blocks img s R d r.place r.st r.to want a → Ends img s R d want r a
 
 -- in_loop: the two jumps, the k words behind the block, or the block
 pub data Loops (i l next k : ℕ) (v : St) (end want : ℕ) (r : Step) : Type 0 where
@@ -64,21 +65,21 @@ pub data Loops (i l next k : ℕ) (v : St) (end want : ℕ) (r : Step) : Type 0 
 -- in_if, ..: from the record at i, taken as a statement of a kind, whose parts are d records deep at most
 pub record Moves (img t N s s' : List ℕ) (R : Rules) (d : ℕ) (K : StmtKind) (i : ℕ) (st : St) (end want : ℕ) (r : Step) : Type 0 where
   pub leads : (a : Spot) → Ends img s' R d want r a → Found (told img want) (gen_stmt_lem (rules_of R) (contract_at img) (taken K d img i) (scope_in img s) st.next) (tally st) end want a
-  pub ready : r.way ≡ 4 → Ready img t N s' (vars-stmts (body_at (stmt_at_lem d img) img r.place))
+  pub ready : r.way ≡ way.Block → Ready img t N s' (vars-stmts (body_at (stmt_at_lem d img) img r.place))
 
 -- step_stmt: by its own kind
 pub record Steps (img t N s s' : List ℕ) (R : Rules) (d i : ℕ) (st : St) (end want : ℕ) (r : Step) : Type 0 where
   pub leads : (a : Spot) → Ends img s' R d want r a → Found (told img want) (gen_stmt_lem (rules_of R) (contract_at img) (stmt_at_lem (suc d) img i) (scope_in img s) st.next) (tally st) end want a
-  pub ready : r.way ≡ 4 → Ready img t N s' (vars-stmts (body_at (stmt_at_lem d img) img r.place))
+  pub ready : r.way ≡ way.Block → Ready img t N s' (vars-stmts (body_at (stmt_at_lem d img) img r.place))
 
 -- step_block: a statement of the List, or none: then there is no such word
 pub record Reaches (img t N s s' : List ℕ) (R : Rules) (d l : ℕ) (st : St) (end want : ℕ) (r : Step) : Type 0 where
-  pub leads : (a : Spot) → r.way ≡ 5 → Found (told img want) (gen_stmt_lem (rules_of R) (contract_at img) (stmt_at_lem d img r.place) (scope_in img s') r.st.next) (tally r.st) r.to want a
+  pub leads : (a : Spot) → r.way ≡ way.Stmt → Found (told img want) (gen_stmt_lem (rules_of R) (contract_at img) (stmt_at_lem d img r.place) (scope_in img s') r.st.next) (tally r.st) r.to want a
       → Blocks img s R d l st end want a
-  pub ready : r.way ≡ 5 → Ready img t N s' (vars (stmt_at_lem d img r.place))
-  pub absent : (a : Spot) → (r.way ≡ 5 → ⊥) → Blocks img s R d l st end want a
+  pub ready : r.way ≡ way.Stmt → Ready img t N s' (vars (stmt_at_lem d img r.place))
+  pub absent : (a : Spot) → (r.way ≡ way.Stmt → ⊥) → Blocks img s R d l st end want a
 
 -- step_list: from the List that b leads to
 pub record Falls (img t N s s' : List ℕ) (R : Rules) (d : ℕ) (b : Step) (want : ℕ) (r : Step) : Type 0 where
   pub leads : (a : Spot) → Ends img s' R (d - 1) want r a → Blocks img s R d b.place b.st b.to want a
-  pub ready : r.way ≡ 4 → Ready img t N s' (vars-stmts (body_at (stmt_at_lem (d - 1) img) img r.place))
+  pub ready : r.way ≡ way.Block → Ready img t N s' (vars-stmts (body_at (stmt_at_lem (d - 1) img) img r.place))

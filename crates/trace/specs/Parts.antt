@@ -32,7 +32,10 @@ use Rattle.stmt.specs.Runs.{here, taken, Opens}
 use Rattle.stmt.proofs.Names.{put_back, fewer, behind, behind_one}
 use Rattle.stmt.proofs.Trees.{else_some, else_none, value_some, value_none}
 use Rattle.seek.specs.declared.Spot.{Spot}
+use denote.Enum.Declared.{tag_of}
+use Rattle.seek.specs.contracts.Way.{the_type}
 use Rattle.seek.specs.declared.Step.{Step}
+use Rattle.seek.specs.declared.Way.TheVariants as way
 use Rattle.seek.specs.Goes.{Goes, split, goes_done, goes_behind}
 use Rattle.seek.specs.Found.{some_same, Found, found_first, found_later, found_asked, found_front, found_back, each_none, each_more, Own, found_own, own_done, own_asks, own_says, own_pick, Long, long_done, long_says, long_asks}
 use Rattle.seek.specs.Spots as spots
@@ -45,38 +48,38 @@ use Rattle.trace.specs.Turns.{found_last, behind_is, behind_own, behind_in, loop
 module _ {img s : List ℕ} {R : Rules} {d want : ℕ} {r : Step} {a : Spot} where
   pub stays : {p : ℕ} {z : St} → r ≡ owned p z → Ends img s R d want r a → plain p ≡ a
   stays e (owns f g h) = sym (ap spot_in_lem e) ∙ h
-  stays e (value f h) = absurd (omega (arith, sym (ap (λ (x : Step). x.way) e) ∙ f))
-  stays e (block f h) = absurd (omega (arith, sym (ap (λ (x : Step). x.way) e) ∙ f))
+  stays e (value f h) = absurd (omega (arith, ap (tag_of the_type) (sym (ap (λ (x : Step). x.way) e) ∙ f)))
+  stays e (block f h) = absurd (omega (arith, ap (tag_of the_type) (sym (ap (λ (x : Step). x.way) e) ∙ f)))
 
   leaps : {p t : ℕ} {z : St} → r ≡ leaping p t z → Ends img s R d want r a → ahead p t ≡ a
   leaps e (owns f g h) = sym (ap spot_in_lem e) ∙ h
-  leaps e (value f h) = absurd (omega (arith, sym (ap (λ (x : Step). x.way) e) ∙ f))
-  leaps e (block f h) = absurd (omega (arith, sym (ap (λ (x : Step). x.way) e) ∙ f))
+  leaps e (value f h) = absurd (omega (arith, ap (tag_of the_type) (sym (ap (λ (x : Step). x.way) e) ∙ f)))
+  leaps e (block f h) = absurd (omega (arith, ap (tag_of the_type) (sym (ap (λ (x : Step). x.way) e) ∙ f)))
 
   enters : {l e : ℕ} {z : St} → r ≡ entering l e z → Ends img s R d want r a → Blocks img s R d l z e want a
   enters e (owns f g h) = absurd (g (ap (λ (x : Step). x.way) e))
-  enters e (value f h) = absurd (omega (arith, sym (ap (λ (x : Step). x.way) e) ∙ f))
+  enters e (value f h) = absurd (omega (arith, ap (tag_of the_type) (sym (ap (λ (x : Step). x.way) e) ∙ f)))
   enters {l} {e} {z} q (block f h) = subst (λ (x : Step). Blocks img s R d x.place x.st x.to want a) q h
 
   pub ends_into : {x e : ℕ} {z : St} → r ≡ into x e z → Ends img s R d want r a → Ans img s R d want r a
   ends_into e (owns f g h) = spots.owns f h
   ends_into e (value f h) = spots.goes f h
-  ends_into e (block f h) = absurd (omega (arith, sym (ap (λ (x : Step). x.way) e) ∙ f))
+  ends_into e (block f h) = absurd (omega (arith, ap (tag_of the_type) (sym (ap (λ (x : Step). x.way) e) ∙ f)))
 
   ends_ans : {x p : ℕ} {z : St} → Row img s R d x p z want r → Ends img s R d want r a → Ans img s R d want r a
   ends_ans (spots.inside t c l e) h = ends_into e h
   ends_ans (spots.behind t c l e) (owns f g h) = spots.owns f h
   ends_ans (spots.behind t c l e) (value f h) = spots.goes f h
-  ends_ans (spots.behind t c l e) (block f h) = absurd (omega (arith, sym (ap (λ (x : Step). x.way) e) ∙ f))
+  ends_ans (spots.behind t c l e) (block f h) = absurd (omega (arith, ap (tag_of the_type) (sym (ap (λ (x : Step). x.way) e) ∙ f)))
 
 -- The part that a step leads into.
 part_of : {img s : List ℕ} {R : Rules} {d x e want : ℕ} {z : St} {r : Step} {a : Spot} → r ≡ into x e z → Ans img s R d want r a → Found (told img want) (steps img s R (expr_at d img x) z) (tally z) e want a
 part_of {img} {s} {R} {d} {x} {e} {want} {z} {r} {a} q h = (subst (λ (y : Step). Finds img s R (expr_at d img y.place) y.st y.to want a) q (deep (ap (λ (y : Step). y.way) q) h)).found
 
 -- It leads into no block.
-row_block : {img s : List ℕ} {R : Rules} {d x p want : ℕ} {z : St} {r : Step} → Row img s R d x p z want r → r.way ≡ 4 → ⊥
-row_block (spots.inside t c l e) f = omega (arith, sym (ap (λ (x : Step). x.way) e) ∙ f)
-row_block (spots.behind t c l e) f = omega (arith, sym (ap (λ (x : Step). x.way) e) ∙ f)
+row_block : {img s : List ℕ} {R : Rules} {d x p want : ℕ} {z : St} {r : Step} → Row img s R d x p z want r → r.way ≡ way.Block → ⊥
+row_block (spots.inside t c l e) f = omega (arith, ap (tag_of the_type) (sym (ap (λ (x : Step). x.way) e) ∙ f))
+row_block (spots.behind t c l e) f = omega (arith, ap (tag_of the_type) (sym (ap (λ (x : Step). x.way) e) ∙ f))
 
 module _ {img t N s : List ℕ} {R : Rules} {d want end i : ℕ} {st : St} {r : Step} where
   -- one value, and the statement's own words behind it
@@ -114,7 +117,7 @@ module _ {img t N s : List ℕ} {R : Rules} {d want end i : ℕ} {st : St} {r : 
   unfolding stmt_as gen_stmt_lem
   mapping_left e f c l q = record {
     leads = λ a h. rw (← e, ← f) (found_asked _ (λ k. into_first c l q (ends_into q h) _));
-    ready = λ z. absurd (omega (arith, sym (ap (λ (x : Step). x.way) q) ∙ z));
+    ready = λ z. absurd (omega (arith, ap (tag_of the_type) (sym (ap (λ (x : Step). x.way) q) ∙ z)));
   }
 
   pub mapping_right : {x y z : ℕ} {v : St} → x ≡ inside img i → y ≡ after img x → z ≡ after img y → Counts img s R d y st v → v.n ≤ want → Row img s R d z i v want r
@@ -131,7 +134,7 @@ module _ {img t N s : List ℕ} {R : Rules} {d want end i : ℕ} {st : St} {r : 
   unfolding stmt_as gen_stmt_lem spot_of
   return_first {a} {z} {q} k p l e = record {
     leads = λ y h. is_found (stays e h) (go (ltb (inside img i) (after img i)));
-    ready = λ y. absurd (omega (arith, sym (ap (λ (x : Step). x.way) e) ∙ y));
+    ready = λ y. absurd (omega (arith, ap (tag_of the_type) (sym (ap (λ (x : Step). x.way) e) ∙ y)));
   }
     where
       go : (b : Bool) → Found (told img want) (gen_stmt_lem (rules_of R) (contract_at img) (when b (λ _. Stmt.return i (expr_at d img (inside img i))) (Stmt.return-none i)) (scope_in img s) st.next) (tally st) end want (plain i)
@@ -156,7 +159,7 @@ module _ {img t N s : List ℕ} {R : Rules} {d want end i : ℕ} {st : St} {r : 
         let c : after img i ≤ inside img i = rw (f, g) at b in
         is_found (stays q h) (rw (value_none (expr_at d img) (stmt_at_lem d img) img i c) (found_own (own_asks _ (λ t. own_says (each_more _ _ refl each_none) (λ w. own_asks _ (λ z.
         own_says (each_more _ _ refl (each_more _ _ refl (each_more _ _ refl (each_more _ _ refl each_none)))) (λ u. own_done _)))))));
-    ready = λ y. absurd (omega (arith, sym (ap (λ (x : Step). x.way) q) ∙ y));
+    ready = λ y. absurd (omega (arith, ap (tag_of the_type) (sym (ap (λ (x : Step). x.way) q) ∙ y)));
   }
 
   -- While
@@ -164,7 +167,7 @@ module _ {img t N s : List ℕ} {R : Rules} {d want end i : ℕ} {st : St} {r : 
   unfolding stmt_as gen_stmt_lem
   while_cond {x} {v} e c l q = record {
     leads = λ a h. rw (← e) (loop_cond (told img want) i _ _ c.goes l (part_of q (ends_into q h)));
-    ready = λ z. absurd (omega (arith, sym (ap (λ (x : Step). x.way) q) ∙ z));
+    ready = λ z. absurd (omega (arith, ap (tag_of the_type) (sym (ap (λ (x : Step). x.way) q) ∙ z)));
   }
 
   pub while_loop : {x y : ℕ} {v : St} → x ≡ inside img i → y ≡ after img x → Ready img t N s (vars (taken sWhile d img i)) → Counts img s R d x st v → v.n ≤ want → Loops i y st.next 1 v end want r
@@ -172,15 +175,15 @@ module _ {img t N s : List ℕ} {R : Rules} {d want end i : ℕ} {st : St} {r : 
   unfolding stmt_as gen_stmt_lem spot_of landing vars
   while_loop {x} {y} {v} e f z c l (jnz j a k o b q) = record {
     leads = λ p h. is_found (leaps q h) (rw (← e, ← f) (loop_jnz (told img want) i _ _ c.goes k.reserved o.reserved l b (λ g w n. ap (ahead i) (omega (arith, w, n)))));
-    ready = λ m. absurd (omega (arith, sym (ap (λ (x : Step). x.way) q) ∙ m));
+    ready = λ m. absurd (omega (arith, ap (tag_of the_type) (sym (ap (λ (x : Step). x.way) q) ∙ m)));
   }
   while_loop {x} {y} {v} e f z c l (jmp j a k o b g q) = record {
     leads = λ p h. is_found (leaps q h) (rw (← e, ← f) (loop_jmp (told img want) i _ _ c.goes k.reserved o.reserved b g (λ n w. ap (ahead i) w)));
-    ready = λ m. absurd (omega (arith, sym (ap (λ (x : Step). x.way) q) ∙ m));
+    ready = λ m. absurd (omega (arith, ap (tag_of the_type) (sym (ap (λ (x : Step). x.way) q) ∙ m)));
   }
   while_loop {x} {y} {v} e f z c l (back j a k o b g q) = record {
     leads = λ p h. is_found (stays q h) (rw (← e, ← f) (loop_back (told img want) i _ _ c.goes k.reserved o.reserved b (leb-true _ _ g) (λ n. refl)));
-    ready = λ m. absurd (omega (arith, sym (ap (λ (x : Step). x.way) q) ∙ m));
+    ready = λ m. absurd (omega (arith, ap (tag_of the_type) (sym (ap (λ (x : Step). x.way) q) ∙ m)));
   }
   while_loop {x} {y} {v} e f z c l (body j a k o b g q) = record {
     leads = λ p h. rw (← e, ← f) (loop_in (told img want) i _ _ c.goes k.reserved o.reserved b (leb-false _ _ g) (rw (← o.next) (enters q h).found));
@@ -272,14 +275,14 @@ module _ {img t N s u : List ℕ} {R : Rules} {d want end i x y z stop : ℕ} {s
   pub if_jnz : v.n ≤ want → want < a.n → r ≡ leaping i b.n st → Moves img t N s u R d sIf i st end want r
   if_jnz l m q = record {
     leads = λ p h. is_found (leaps q h) (whole B l (over B l m));
-    ready = λ m. absurd (omega (arith, sym (ap (λ (x : Step). x.way) q) ∙ m));
+    ready = λ m. absurd (omega (arith, ap (tag_of the_type) (sym (ap (λ (x : Step). x.way) q) ∙ m)));
   }
 
   pub if_jmp : v.n ≤ want → e.n ≤ want → want < b.n → r ≡ leaping i end st → Moves img t N s u R d sIf i st end want r
   unfolding spot_of landing
   if_jmp l m n q = record {
     leads = λ p h. is_found (leaps q h) (whole B l (found_later (told img want) _ (goes_jnz B) m (behind_own (told img want) (skips B) _ B.keeps.reserved n (λ y g x f. ap (ahead i) (omega (arith, x, f))))));
-    ready = λ m. absurd (omega (arith, sym (ap (λ (x : Step). x.way) q) ∙ m));
+    ready = λ m. absurd (omega (arith, ap (tag_of the_type) (sym (ap (λ (x : Step). x.way) q) ∙ m)));
   }
 
   pub if_then : Ready img t N s (vars (taken sIf d img i)) → length u ≡ length s → v.n ≤ want → e.n ≤ want → b.n ≤ want → r ≡ entering y end b → Moves img t N s u R d sIf i st end want r
@@ -314,7 +317,7 @@ pub if_cond : {img t N s : List ℕ} {R : Rules} {d want end i x : ℕ} {st v : 
 unfolding stmt_as gen_stmt_lem
 if_cond e c l q = record {
   leads = λ a h. rw (← e) (into_first c l q (ends_into q h) _);
-  ready = λ z. absurd (omega (arith, sym (ap (λ (x : Step). x.way) q) ∙ z));
+  ready = λ z. absurd (omega (arith, ap (tag_of the_type) (sym (ap (λ (x : Step). x.way) q) ∙ z)));
 }
 
 -- For, up to its loop: x, y, z and q are the places of its name, of its first and its last value and of its block; then the Add and the Lt.
@@ -376,14 +379,14 @@ module _ {img t N s : List ℕ} {R : Rules} {d want end i : ℕ} {st : St} {r : 
   unfolding stmt_as gen_stmt_lem
   for_from e f k b u = record {
     leads = λ p h. rw (← e, ← f) (into_first k b u (ends_into u h) _);
-    ready = λ m. absurd (omega (arith, sym (ap (λ (x : Step). x.way) u) ∙ m));
+    ready = λ m. absurd (omega (arith, ap (tag_of the_type) (sym (ap (λ (x : Step). x.way) u) ∙ m)));
   }
 
   pub for_to : {x y z : ℕ} {v w : St} → x ≡ inside img i → y ≡ after img x → z ≡ after img y → Counts img s R d y st v → v.n ≤ want → Counts img s R d z v w → want < w.n → r ≡ into z w.n v → Moves img t N s s R d sFor i st end want r
   unfolding stmt_as gen_stmt_lem
   for_to e f g k b m o u = record {
     leads = λ p h. rw (← e, ← f, ← g) (found_later (told img want) _ k.goes b (into_first m o u (ends_into u h) _));
-    ready = λ m. absurd (omega (arith, sym (ap (λ (x : Step). x.way) u) ∙ m));
+    ready = λ m. absurd (omega (arith, ap (tag_of the_type) (sym (ap (λ (x : Step). x.way) u) ∙ m)));
   }
 
   pub for_add : {x y z : ℕ} {v w a n j : St} → x ≡ inside img i → y ≡ after img x → z ≡ after img y → Counts img s R d y st v → v.n ≤ want → Counts img s R d z v w → w.n ≤ want → Takes R w a i → Keeps a n → want < n.n → r ≡ owned i j
@@ -392,14 +395,14 @@ module _ {img t N s : List ℕ} {R : Rules} {d want end i : ℕ} {st : St} {r : 
   for_add {x} {y} {z} {v} e f g k b m o j p h u = record {
     leads = λ y q. is_found (stays u q) (rw (← e, ← f, ← g) (found_later (told img want) _ k.goes b (found_later (told img want) _ m.goes o
         (fresh_own (told img want) _ (λ k. add i k (v.reg % 256) 0) _ (takes_fresh (contract_at img) _ j p) (λ k. refl) h))));
-    ready = λ m. absurd (omega (arith, sym (ap (λ (x : Step). x.way) u) ∙ m));
+    ready = λ m. absurd (omega (arith, ap (tag_of the_type) (sym (ap (λ (x : Step). x.way) u) ∙ m)));
   }
 
   pub for_lt : {x y z q : ℕ} {v w a n c l j : St} → Heading img s R d i x y z q st v w a n c l → v.n ≤ want → w.n ≤ want → n.n ≤ want → want < l.n → r ≡ owned i j → Moves img t N s s R d sFor i st end want r
   unfolding spot_of
   for_lt H b e f h u = record {
     leads = λ p g. is_found (stays u g) (in_turns H b e f (loop_cond (told img want) i _ _ (goes_less H) h (found_own (own_asks _ (λ c. own_says (each_more _ _ refl each_none) (λ u. own_done _))))));
-    ready = λ m. absurd (omega (arith, sym (ap (λ (x : Step). x.way) u) ∙ m));
+    ready = λ m. absurd (omega (arith, ap (tag_of the_type) (sym (ap (λ (x : Step). x.way) u) ∙ m)));
   }
 
 -- For, its loop, with its variable's name in the scope
@@ -408,15 +411,15 @@ pub for_loop : {img t N s s' : List ℕ} {R : Rules} {d want end i x y z q : ℕ
 unfolding spot_of landing vars
 for_loop {img} {t} {N} {s} {s'} {R} {d} {want} {end} {i} {x} {y} {z} {q} H f g m b e h k (jnz j u o p y' r') = record {
   leads = λ a h'. is_found (leaps r' h') (in_turns H b e h (loop_jnz (told img want) i _ _ (goes_less H) o.reserved p.reserved k y' (λ g' w' n'. ap (ahead i) (omega (arith, w', n')))));
-  ready = λ m. absurd (omega (arith, sym (ap (λ (x : Step). x.way) r') ∙ m));
+  ready = λ m. absurd (omega (arith, ap (tag_of the_type) (sym (ap (λ (x : Step). x.way) r') ∙ m)));
 }
 for_loop {img} {t} {N} {s} {s'} {R} {d} {want} {end} {i} H f g m b e h k (jmp j u o p y' z' r') = record {
   leads = λ a h'. is_found (leaps r' h') (in_turns H b e h (loop_jmp (told img want) i _ _ (goes_less H) o.reserved p.reserved y' z' (λ n' w'. ap (ahead i) w')));
-  ready = λ m. absurd (omega (arith, sym (ap (λ (x : Step). x.way) r') ∙ m));
+  ready = λ m. absurd (omega (arith, ap (tag_of the_type) (sym (ap (λ (x : Step). x.way) r') ∙ m)));
 }
 for_loop {img} {t} {N} {s} {s'} {R} {d} {want} {end} {i} {x} {y} {z} {q} {st} {v} {w} {a} {n} {c} {l} {r} H f g m b e h k (back j u o p y' z' r') = record {
   leads = λ a h'. is_found (stays r' h') (in_turns H b e h (go (leb end (want + 1)) refl));
-  ready = λ m. absurd (omega (arith, sym (ap (λ (x : Step). x.way) r') ∙ m));
+  ready = λ m. absurd (omega (arith, ap (tag_of the_type) (sym (ap (λ (x : Step). x.way) r') ∙ m)));
 }
   where
     -- the jump back, or one of the two words before it

@@ -8,16 +8,14 @@
 ghost use Rattle.std.specs.Prelude.{◌≡◌, suc, ◌+◌, ◌<◌, leb, length};
 ghost use Rattle.rules.specs.Read.{stmt_at_lem, body_at, else_at, sMapping, sIf, sWhile, sFor, sReturn, sEmit};
 ghost use Rattle.bounds.specs.Sizes.{vars, vars-stmts};
-ghost use Rattle.notes.specs.Notes.{Known};
 ghost use Rattle.stmt.specs.Frame.{Ready};
 ghost use Rattle.stmt.specs.Runs.{taken};
+ghost use Rattle.seek.specs.declared.Way.TheVariants as way;
 ghost use Rattle.trace.specs.Moves.{entering, within, Counted, CountedAll, CountedElse, Loops, Moves, Steps, Reaches, Falls, Ends, Blocks};
 
 use emit::{Rules, St};
-use seek::{Spot, Step};
-
-// The word lies in the statement at `place`.
-const STMT: u64 = 5;
+use notes::Analysed;
+use seek::{Spot, Step, Way};
 
 // The word lies in the List of statements at `list`.
 fn block(list: usize, end: usize, st: St) -> Step
@@ -25,7 +23,7 @@ fn block(list: usize, end: usize, st: St) -> Step
 {
     Step {
         place: list,
-        way: seek::BLOCK,
+        way: Way::Block,
         to: end,
         st,
     }
@@ -37,7 +35,7 @@ fn stmt_at(at: usize, end: usize, st: St) -> Step
 {
     Step {
         place: at,
-        way: STMT,
+        way: Way::Stmt,
         to: end,
         st,
     }
@@ -56,16 +54,14 @@ pub fn among_last(want: usize, k: usize, end: usize) -> bool
 // The state behind the statement at `at`.
 fn count_stmt(
     scope: &mut [usize],
-    img: &[u8],
-    tables: &[usize],
-    notes: &[u8; notes::SIZE],
+    analysed: &Analysed<'_>,
     rules: Rules,
     d: usize,
     at: usize,
     st: St,
 ) -> St
-    requires { Ready img.now tables.now notes.now scope.old (vars (stmt_at_lem d img.now at)) × (at < length img.now) }
-    ensures { Counted rules img.now d at st scope.old result scope.new }
+    requires { Ready analysed.now.contract.img.now analysed.now.contract.tables.now analysed.now.notes.now scope.old (vars (stmt_at_lem d analysed.now.contract.img.now at)) × (at < length analysed.now.contract.img.now) }
+    ensures { Counted rules analysed.now.contract.img.now d at st scope.old result scope.new }
 {
     let mut code = [0u64; 1];
     let mut bytes = [0u8; 1];
@@ -73,13 +69,11 @@ fn count_stmt(
         &mut code,
         &mut bytes,
         scope,
-        img,
-        tables,
-        notes,
+        analysed,
         rules,
         d,
         at,
-        records::past(img, at),
+        records::past(analysed.contract.img, at),
         st,
     )
 }
@@ -87,26 +81,23 @@ fn count_stmt(
 // The state behind the statements of the List at `list`.
 fn count_stmts(
     scope: &mut [usize],
-    img: &[u8],
-    tables: &[usize],
-    notes: &[u8; notes::SIZE],
+    analysed: &Analysed<'_>,
     rules: Rules,
     d: usize,
     list: usize,
     st: St,
 ) -> St
-    requires { Ready img.now tables.now notes.now scope.old (vars-stmts (body_at (stmt_at_lem d img.now) img.now list)) }
-    ensures { CountedAll rules img.now d list st scope.old result scope.new }
+    requires { Ready analysed.now.contract.img.now analysed.now.contract.tables.now analysed.now.notes.now scope.old (vars-stmts (body_at (stmt_at_lem d analysed.now.contract.img.now) analysed.now.contract.img.now list)) }
+    ensures { CountedAll rules analysed.now.contract.img.now d list st scope.old result scope.new }
 {
+    let img = analysed.contract.img;
     let mut code = [0u64; 1];
     let mut bytes = [0u8; 1];
     stmt::gen_stmts(
         &mut code,
         &mut bytes,
         scope,
-        img,
-        tables,
-        notes,
+        analysed,
         rules,
         d,
         records::body(img, list),
@@ -118,20 +109,18 @@ fn count_stmts(
 // The state behind `else`, where there is one before `stop`.
 fn count_else(
     scope: &mut [usize],
-    img: &[u8],
-    tables: &[usize],
-    notes: &[u8; notes::SIZE],
+    analysed: &Analysed<'_>,
     rules: Rules,
     d: usize,
     list: usize,
     stop: usize,
     st: St,
 ) -> St
-    requires { Ready img.now tables.now notes.now scope.old (vars-stmts (else_at (stmt_at_lem d img.now) img.now list stop)) }
-    ensures { CountedElse rules img.now d list stop st scope.old result scope.new }
+    requires { Ready analysed.now.contract.img.now analysed.now.contract.tables.now analysed.now.notes.now scope.old (vars-stmts (else_at (stmt_at_lem d analysed.now.contract.img.now) analysed.now.contract.img.now list stop)) }
+    ensures { CountedElse rules analysed.now.contract.img.now d list stop st scope.old result scope.new }
 {
     if list < stop {
-        count_stmts(scope, img, tables, notes, rules, d, list, st)
+        count_stmts(scope, analysed, rules, d, list, st)
     } else {
         st
     }
@@ -139,9 +128,7 @@ fn count_else(
 
 // Of a MappingWrite: the key, the value, the rest.
 fn in_mapping(
-    img: &[u8],
-    tables: &[usize],
-    notes: &[u8; notes::SIZE],
+    analysed: &Analysed<'_>,
     scope: &[usize],
     rules: Rules,
     d: usize,
@@ -150,23 +137,21 @@ fn in_mapping(
     end: usize,
     want: usize,
 ) -> Step
-    requires { Known img.now tables.now notes.now }
-    ensures { Moves img.now tables.now notes.now scope.now scope.now rules d sMapping at st end want result }
+    ensures { Moves analysed.now.contract.img.now analysed.now.contract.tables.now analysed.now.notes.now scope.now scope.now rules d sMapping at st end want result }
 {
+    let img = analysed.contract.img;
     let key = records::past(img, records::body(img, at));
     let value = records::past(img, key);
-    let a = seek::count_expr(img, tables, notes, scope, rules, d, key, st);
+    let a = seek::count_expr(analysed, scope, rules, d, key, st);
     if want < a.n {
         return seek::value(key, a.n, st);
     }
-    seek::in_value(img, tables, notes, scope, rules, d, value, at, a, want)
+    seek::in_value(analysed, scope, rules, d, value, at, a, want)
 }
 
 // Of a Return: the Pop, the value, the rest.
 fn in_return(
-    img: &[u8],
-    tables: &[usize],
-    notes: &[u8; notes::SIZE],
+    analysed: &Analysed<'_>,
     scope: &[usize],
     rules: Rules,
     d: usize,
@@ -175,9 +160,9 @@ fn in_return(
     end: usize,
     want: usize,
 ) -> Step
-    requires { Known img.now tables.now notes.now }
-    ensures { Moves img.now tables.now notes.now scope.now scope.now rules d sReturn at st end want result }
+    ensures { Moves analysed.now.contract.img.now analysed.now.contract.tables.now analysed.now.notes.now scope.now scope.now rules d sReturn at st end want result }
 {
+    let img = analysed.contract.img;
     let value = records::body(img, at);
     let a = st.alloc_reg(rules, at);
     let t = a.reserve();
@@ -185,16 +170,14 @@ fn in_return(
         return seek::own(at, st);
     }
     if value < records::past(img, at) {
-        return seek::in_value(img, tables, notes, scope, rules, d, value, at, t, want);
+        return seek::in_value(analysed, scope, rules, d, value, at, t, want);
     }
     seek::own(at, st)
 }
 
 // Of an Emit: each argument, and its Log.
 fn in_emit(
-    img: &[u8],
-    tables: &[usize],
-    notes: &[u8; notes::SIZE],
+    analysed: &Analysed<'_>,
     scope: &[usize],
     rules: Rules,
     d: usize,
@@ -203,15 +186,15 @@ fn in_emit(
     end: usize,
     want: usize,
 ) -> Step
-    requires { Known img.now tables.now notes.now }
-    ensures { Moves img.now tables.now notes.now scope.now scope.now rules d sEmit at st end want result }
+    ensures { Moves analysed.now.contract.img.now analysed.now.contract.tables.now analysed.now.notes.now scope.now scope.now rules d sEmit at st end want result }
 {
+    let img = analysed.contract.img;
     let list = records::past(img, records::body(img, at));
     let e = records::past(img, list);
     let mut p = records::body(img, list);
     let mut s = st;
     while p < e {
-        let v = seek::count_expr(img, tables, notes, scope, rules, d, p, s);
+        let v = seek::count_expr(analysed, scope, rules, d, p, s);
         if want < v.n {
             return seek::value(p, v.n, s);
         }
@@ -227,9 +210,7 @@ fn in_emit(
 // Of an If: the condition, Jnz, `else`, Jmp, `then`.
 fn in_if(
     scope: &mut [usize],
-    img: &[u8],
-    tables: &[usize],
-    notes: &[u8; notes::SIZE],
+    analysed: &Analysed<'_>,
     rules: Rules,
     d: usize,
     at: usize,
@@ -237,20 +218,21 @@ fn in_if(
     end: usize,
     want: usize,
 ) -> Step
-    requires { Ready img.now tables.now notes.now scope.old (vars (taken sIf d img.now at)) }
-    ensures { Moves img.now tables.now notes.now scope.old scope.new rules d sIf at st end want result }
+    requires { Ready analysed.now.contract.img.now analysed.now.contract.tables.now analysed.now.notes.now scope.old (vars (taken sIf d analysed.now.contract.img.now at)) }
+    ensures { Moves analysed.now.contract.img.now analysed.now.contract.tables.now analysed.now.notes.now scope.old scope.new rules d sIf at st end want result }
 {
+    let img = analysed.contract.img;
     let cond = records::body(img, at);
     let then = records::past(img, cond);
     let other = records::past(img, then);
     let stop = records::past(img, at);
-    let v = seek::count_expr(img, tables, notes, scope, rules, d, cond, st);
+    let v = seek::count_expr(analysed, scope, rules, d, cond, st);
     if want < v.n {
         return seek::value(cond, v.n, st);
     }
     let a = stmt::open_slot(v, st.next);
     let mark = scope[0];
-    let e = count_else(scope, img, tables, notes, rules, d, other, stop, a);
+    let e = count_else(scope, analysed, rules, d, other, stop, a);
     let b = e.reserve();
     if want < a.n {
         return seek::jump(at, b.n, st);
@@ -285,9 +267,7 @@ fn in_loop(at: usize, list: usize, next: u64, k: usize, v: St, end: usize, want:
 
 // Of a While: the condition, then the loop, the jump back behind its block.
 fn in_while(
-    img: &[u8],
-    tables: &[usize],
-    notes: &[u8; notes::SIZE],
+    analysed: &Analysed<'_>,
     scope: &[usize],
     rules: Rules,
     d: usize,
@@ -296,12 +276,13 @@ fn in_while(
     end: usize,
     want: usize,
 ) -> Step
-    requires { Ready img.now tables.now notes.now scope.now (vars (taken sWhile d img.now at)) }
-    ensures { Moves img.now tables.now notes.now scope.now scope.now rules d sWhile at st end want result }
+    requires { Ready analysed.now.contract.img.now analysed.now.contract.tables.now analysed.now.notes.now scope.now (vars (taken sWhile d analysed.now.contract.img.now at)) }
+    ensures { Moves analysed.now.contract.img.now analysed.now.contract.tables.now analysed.now.notes.now scope.now scope.now rules d sWhile at st end want result }
 {
+    let img = analysed.contract.img;
     let cond = records::body(img, at);
     let list = records::past(img, cond);
-    let v = seek::count_expr(img, tables, notes, scope, rules, d, cond, st);
+    let v = seek::count_expr(analysed, scope, rules, d, cond, st);
     if want < v.n {
         return seek::value(cond, v.n, st);
     }
@@ -311,9 +292,7 @@ fn in_while(
 // Of a For: from, to, Add, Lt, then the loop with the variable's name, three words behind its block.
 fn in_for(
     scope: &mut [usize],
-    img: &[u8],
-    tables: &[usize],
-    notes: &[u8; notes::SIZE],
+    analysed: &Analysed<'_>,
     rules: Rules,
     d: usize,
     at: usize,
@@ -321,17 +300,18 @@ fn in_for(
     end: usize,
     want: usize,
 ) -> Step
-    requires { Ready img.now tables.now notes.now scope.old (vars (taken sFor d img.now at)) }
-    ensures { Moves img.now tables.now notes.now scope.old scope.new rules d sFor at st end want result }
+    requires { Ready analysed.now.contract.img.now analysed.now.contract.tables.now analysed.now.notes.now scope.old (vars (taken sFor d analysed.now.contract.img.now at)) }
+    ensures { Moves analysed.now.contract.img.now analysed.now.contract.tables.now analysed.now.notes.now scope.old scope.new rules d sFor at st end want result }
 {
+    let img = analysed.contract.img;
     let var = records::body(img, at);
     let from = records::past(img, var);
     let to = records::past(img, from);
-    let v = seek::count_expr(img, tables, notes, scope, rules, d, from, st);
+    let v = seek::count_expr(analysed, scope, rules, d, from, st);
     if want < v.n {
         return seek::value(from, v.n, st);
     }
-    let w = seek::count_expr(img, tables, notes, scope, rules, d, to, v);
+    let w = seek::count_expr(analysed, scope, rules, d, to, v);
     if want < w.n {
         return seek::value(to, w.n, v);
     }
@@ -352,9 +332,7 @@ fn in_for(
 // From the statement at `at`, whose parts are d records deep at most, to the part that the word lies in.
 fn step_stmt(
     scope: &mut [usize],
-    img: &[u8],
-    tables: &[usize],
-    notes: &[u8; notes::SIZE],
+    analysed: &Analysed<'_>,
     rules: Rules,
     d: usize,
     at: usize,
@@ -362,20 +340,21 @@ fn step_stmt(
     end: usize,
     want: usize,
 ) -> Step
-    requires { Ready img.now tables.now notes.now scope.old (vars (stmt_at_lem (suc d) img.now at)) }
-    ensures { Steps img.now tables.now notes.now scope.old scope.new rules d at st end want result }
+    requires { Ready analysed.now.contract.img.now analysed.now.contract.tables.now analysed.now.notes.now scope.old (vars (stmt_at_lem (suc d) analysed.now.contract.img.now at)) }
+    ensures { Steps analysed.now.contract.img.now analysed.now.contract.tables.now analysed.now.notes.now scope.old scope.new rules d at st end want result }
 {
+    let img = analysed.contract.img;
     let first = records::body(img, at);
     let second = records::past(img, first);
     match records::kind(img, at) {
-        32 | 34 | 35 => seek::in_value(img, tables, notes, scope, rules, d, second, at, st, want),
-        33 | 42 => seek::in_value(img, tables, notes, scope, rules, d, first, at, st, want),
-        36 => in_mapping(img, tables, notes, scope, rules, d, at, st, end, want),
-        37 => in_if(scope, img, tables, notes, rules, d, at, st, end, want),
-        38 => in_while(img, tables, notes, scope, rules, d, at, st, end, want),
-        39 => in_for(scope, img, tables, notes, rules, d, at, st, end, want),
-        40 => in_return(img, tables, notes, scope, rules, d, at, st, end, want),
-        41 => in_emit(img, tables, notes, scope, rules, d, at, st, end, want),
+        32 | 34 | 35 => seek::in_value(analysed, scope, rules, d, second, at, st, want),
+        33 | 42 => seek::in_value(analysed, scope, rules, d, first, at, st, want),
+        36 => in_mapping(analysed, scope, rules, d, at, st, end, want),
+        37 => in_if(scope, analysed, rules, d, at, st, end, want),
+        38 => in_while(analysed, scope, rules, d, at, st, end, want),
+        39 => in_for(scope, analysed, rules, d, at, st, end, want),
+        40 => in_return(analysed, scope, rules, d, at, st, end, want),
+        41 => in_emit(analysed, scope, rules, d, at, st, end, want),
         _ => seek::own(at, st),
     }
 }
@@ -383,9 +362,7 @@ fn step_stmt(
 // To the statement of the List at `list` that the word lies in.
 fn step_block(
     scope: &mut [usize],
-    img: &[u8],
-    tables: &[usize],
-    notes: &[u8; notes::SIZE],
+    analysed: &Analysed<'_>,
     rules: Rules,
     d: usize,
     list: usize,
@@ -393,9 +370,10 @@ fn step_block(
     end: usize,
     want: usize,
 ) -> Step
-    requires { Ready img.now tables.now notes.now scope.old (vars-stmts (body_at (stmt_at_lem d img.now) img.now list)) }
-    ensures { Reaches img.now tables.now notes.now scope.old scope.new rules d list st end want result }
+    requires { Ready analysed.now.contract.img.now analysed.now.contract.tables.now analysed.now.notes.now scope.old (vars-stmts (body_at (stmt_at_lem d analysed.now.contract.img.now) analysed.now.contract.img.now list)) }
+    ensures { Reaches analysed.now.contract.img.now analysed.now.contract.tables.now analysed.now.notes.now scope.old scope.new rules d list st end want result }
 {
+    let img = analysed.contract.img;
     let e = records::past(img, list);
     let mut p = records::body(img, list);
     let mut s = st;
@@ -405,7 +383,7 @@ fn step_block(
             return stmt_at(p, end, s);
         }
         let mark = scope[0];
-        let a = count_stmt(scope, img, tables, notes, rules, d, p, s);
+        let a = count_stmt(scope, analysed, rules, d, p, s);
         if want < a.n {
             scope[0] = mark;
             return stmt_at(p, a.n, s);
@@ -419,55 +397,35 @@ fn step_block(
 // From the List of statements that t leads to, d records deep at most, to the part of a statement that the word lies in.
 fn step_list(
     scope: &mut [usize],
-    img: &[u8],
-    tables: &[usize],
-    notes: &[u8; notes::SIZE],
+    analysed: &Analysed<'_>,
     rules: Rules,
     d: usize,
     t: Step,
     want: usize,
 ) -> Step
-    requires { Ready img.now tables.now notes.now scope.old (vars-stmts (body_at (stmt_at_lem d img.now) img.now t.place)) × (d ≡ 0 → ⊥) }
-    ensures { Falls img.now tables.now notes.now scope.old scope.new rules d t want result }
+    requires { Ready analysed.now.contract.img.now analysed.now.contract.tables.now analysed.now.notes.now scope.old (vars-stmts (body_at (stmt_at_lem d analysed.now.contract.img.now) analysed.now.contract.img.now t.place)) × (d ≡ 0 → ⊥) }
+    ensures { Falls analysed.now.contract.img.now analysed.now.contract.tables.now analysed.now.notes.now scope.old scope.new rules d t want result }
 {
-    let b = step_block(
-        scope, img, tables, notes, rules, d, t.place, t.st, t.to, want,
-    );
-    if b.way != STMT {
+    let b = step_block(scope, analysed, rules, d, t.place, t.st, t.to, want);
+    if b.way != Way::Stmt {
         return seek::own(b.place, b.st);
     }
-    step_stmt(
-        scope,
-        img,
-        tables,
-        notes,
-        rules,
-        d - 1,
-        b.place,
-        b.st,
-        b.to,
-        want,
-    )
+    step_stmt(scope, analysed, rules, d - 1, b.place, b.st, b.to, want)
 }
 
 // The spot that t leads to, where that is no List of statements.
 fn settle(
-    img: &[u8],
-    tables: &[usize],
-    notes: &[u8; notes::SIZE],
+    analysed: &Analysed<'_>,
     scope: &[usize],
     rules: Rules,
     d: usize,
     t: Step,
     want: usize,
 ) -> Spot
-    requires { Known img.now tables.now notes.now }
-    ensures { (t.way ≡ 4 → ⊥) → Ends img.now scope.now rules d want t result }
+    ensures { (t.way ≡ way.Block → ⊥) → Ends analysed.now.contract.img.now scope.now rules d want t result }
 {
-    if t.way == seek::VALUE {
-        return seek::find_expr(
-            img, tables, notes, scope, rules, d, t.place, t.st, t.to, want,
-        );
+    if t.way == Way::Value {
+        return seek::find_expr(analysed, scope, rules, d, t.place, t.st, t.to, want);
     }
     Spot {
         place: t.place,
@@ -479,9 +437,7 @@ fn settle(
 // The record that the word is of, in the List of statements at `list`.
 pub fn find_stmt(
     scope: &mut [usize],
-    img: &[u8],
-    tables: &[usize],
-    notes: &[u8; notes::SIZE],
+    analysed: &Analysed<'_>,
     rules: Rules,
     depth: usize,
     list: usize,
@@ -489,17 +445,15 @@ pub fn find_stmt(
     end: usize,
     want: usize,
 ) -> Spot
-    requires { Ready img.now tables.now notes.now scope.old (vars-stmts (body_at (stmt_at_lem depth img.now) img.now list)) }
-    ensures { Blocks img.now scope.old rules depth list st end want result }
+    requires { Ready analysed.now.contract.img.now analysed.now.contract.tables.now analysed.now.notes.now scope.old (vars-stmts (body_at (stmt_at_lem depth analysed.now.contract.img.now) analysed.now.contract.img.now list)) }
+    ensures { Blocks analysed.now.contract.img.now scope.old rules depth list st end want result }
 {
-    let mut d = depth;
     let mut t = block(list, end, st);
-    while d != 0 {
-        t = step_list(scope, img, tables, notes, rules, d, t, want);
-        d -= 1;
-        if t.way != seek::BLOCK {
-            return settle(img, tables, notes, scope, rules, d, t, want);
+    for d in (0..depth).rev() {
+        t = step_list(scope, analysed, rules, d + 1, t, want);
+        if t.way != Way::Block {
+            return settle(analysed, scope, rules, d, t, want);
         }
     }
-    settle(img, tables, notes, scope, rules, d, t, want)
+    settle(analysed, scope, rules, 0, t, want)
 }

@@ -3,18 +3,19 @@ use Rattle.std.specs.Prelude.{Option, None, Some}
 use mathlib.Core.Bool.{Bool, true, false}
 use mathlib.Core.List.{List, [], ◌∷◌}
 use mathlib.Core.Path.{◌≡◌, refl, sym, ◌∙◌}
-use Prim.Native.Nat.{ℕ, zero, suc, ◌+◌, ◌-◌, ◌<◌}
+use Prim.Native.Nat.{ℕ, zero, suc, ◌+◌}
 use native.Mathlib.Omega.{arith}
 use native.Mathlib.Nat.{zero-add}
 use native.Mathlib.Numerals.{add-one}
 use lib.ListN.{drop}
-use Rattle.rules.specs.Bytes.{pick, Name, after}
+use Rattle.rules.specs.Bytes.{pick, Name}
 use Rattle.rules.specs.Tables.{or_else, nth}
 use Rattle.rules.specs.Tree.{Exprs, Struct, Contract}
 use Rattle.rules.specs.Types.{Typ, Env}
 use Rattle.rules.specs.Refusal.{Refusal, Res, ok, bad, ◌>>=◌}
 use Rattle.rules.specs.Analyse.{Arg, Misfit, misfit, clashes, Sig, params_of, apply, applied, expr, exprs, inits}
-use Rattle.rules.specs.Read.{name_in, second, expr_at, exprs_from, inits_from}
+use Rattle.rules.specs.Read.{name_in, second, expr_at}
+use Rattle.bounds.specs.Lists.{exprs_of, inits_of}
 use Rattle.lookup.specs.Answers.{noted}
 use Rattle.lookup.specs.Results.{then_ok, then_bad}
 use Rattle.typing.specs.Arguments.{Sum, sum, sum_up, sum_args, behind, one_init}
@@ -69,8 +70,8 @@ joined (bad r) f g = refl
 
 module _ (C : Contract) (d : ℕ) (img : List ℕ) (Γ : Env) where
   -- before the first argument
-  pub args_start : (ps : List Typ) (k p e : ℕ) → sum_args C ps 0 (exprs_from k (expr_at d img) img p e) Γ ≡ (sum_args C ps 0 (exprs_from (k - 0) (expr_at d img) img p e) Γ >>= behind None)
-  args_start ps k p e = let z : k - 0 ≡ k = omega arith in rw z (behind_none _)
+  pub args_start : (ps : List Typ) (es : Exprs) → sum_args C ps 0 es Γ ≡ (sum_args C ps 0 es Γ >>= behind None)
+  args_start ps es = behind_none _
 
   module _ (ps : List Typ) (i : ℕ) (m : Option Misfit) where
     -- no argument more
@@ -78,39 +79,28 @@ module _ (C : Contract) (d : ℕ) (img : List ℕ) (Γ : Env) where
     unfolding exprs ◌>>=◌ sum_up behind misfit
     args_done es e = rw e (sums (omega arith) (or_none m))
 
-    -- one argument more, of type t
-    pub args_next : (k p e : ℕ) {t : Typ} (m' : Option Misfit) → i < k → p < e → ok t ≡ expr C (expr_at d img p) Γ → m' ≡ noted (clashes (nth i ps) t) i p m
-        → (sum_args C ps i (exprs_from (k - i) (expr_at d img) img p e) Γ >>= behind m) ≡ (sum_args C ps (i + 1) (exprs_from (k - (i + 1)) (expr_at d img) img (after img p) e) Γ >>= behind m')
-    unfolding exprs ◌>>=◌
-    args_next k p e {t} m' h l q w =
-        let z : k - (i + 1) ≡ k - i - 1 = omega arith in
-        rw (z, w, exprs_more (expr_at d img) img (k - i) p e (λ y. omega arith) l, ← q, at_place d img p)
-        (one_more t (exprs C (exprs_from (k - i - 1) (expr_at d img) img (after img p) e) Γ) ps i p m)
+    module _ {ls ms : List ℕ} {p : ℕ} (h : ls ≡ p ∷ ms) where
+      -- one argument more, of type t
+      pub args_next : {t : Typ} (m' : Option Misfit) → ok t ≡ expr C (expr_at d img p) Γ → m' ≡ noted (clashes (nth i ps) t) i p m
+          → (sum_args C ps i (exprs_of (expr_at d img) ls) Γ >>= behind m) ≡ (sum_args C ps (i + 1) (exprs_of (expr_at d img) ms) Γ >>= behind m')
+      unfolding exprs ◌>>=◌
+      args_next {t} m' q w = rw (w, exprs_more (expr_at d img) h, ← q, at_place d img p) (one_more t (exprs C (exprs_of (expr_at d img) ms) Γ) ps i p m)
 
-    -- one that is refused
-    pub args_refused : (k p e : ℕ) {r : Refusal} → i < k → p < e → bad r ≡ expr C (expr_at d img p) Γ
-        → bad r ≡ (sum_args C ps i (exprs_from (k - i) (expr_at d img) img p e) Γ >>= behind m)
-    unfolding exprs ◌>>=◌
-    args_refused k p e h l q = rw (exprs_more (expr_at d img) img (k - i) p e (λ y. omega arith) l, ← q)
+      -- one that is refused
+      pub args_refused : {r : Refusal} → bad r ≡ expr C (expr_at d img p) Γ → bad r ≡ (sum_args C ps i (exprs_of (expr_at d img) ls) Γ >>= behind m)
+      unfolding exprs ◌>>=◌
+      args_refused q = rw (exprs_more (expr_at d img) h, ← q)
 
-  module _ (s : Struct) (k p e : ℕ) (h : k ≡ 0 → ⊥) (l : p < e) where
-    first : Res (Unit {0})
-    first = one_init C s p (name_in img p) (expr_at d img (second img p)) Γ
-
-    rest : Res (Unit {0})
-    rest = inits C s (inits_from (k - 1) (expr_at d img) img (after img p) e) Γ
-
-    inits_one : inits C s (inits_from k (expr_at d img) img p e) Γ ≡ (first >>= λ u. rest)
-    unfolding inits first rest one_init
-    inits_one = rw (inits_more (expr_at d img) img k p e h l) (sym (joined (expr C (expr_at d img (second img p)) Γ) _ _))
+  module _ (s : Struct) {ls ms : List ℕ} {p : ℕ} (h : ls ≡ p ∷ ms) where
+    inits_one : inits C s (inits_of (expr_at d img) img ls) Γ ≡ (one_init C s p (name_in img p) (expr_at d img (second img p)) Γ >>= λ u. inits C s (inits_of (expr_at d img) img ms) Γ)
+    unfolding inits one_init
+    inits_one = rw (inits_more (expr_at d img) img h) (sym (joined (expr C (expr_at d img (second img p)) Γ) _ _))
 
     pub inits_next : ok tt ≡ one_init C s p (name_in img p) (expr_at d img (second img p)) Γ
-        → inits C s (inits_from k (expr_at d img) img p e) Γ ≡ inits C s (inits_from (k - 1) (expr_at d img) img (after img p) e) Γ
-    unfolding first rest
+        → inits C s (inits_of (expr_at d img) img ls) Γ ≡ inits C s (inits_of (expr_at d img) img ms) Γ
     inits_next q = inits_one ∙ sym (then_ok _ q refl)
 
-    pub inits_bad : {r : Refusal} → bad r ≡ one_init C s p (name_in img p) (expr_at d img (second img p)) Γ → bad r ≡ inits C s (inits_from k (expr_at d img) img p e) Γ
-    unfolding first rest
+    pub inits_bad : {r : Refusal} → bad r ≡ one_init C s p (name_in img p) (expr_at d img (second img p)) Γ → bad r ≡ inits C s (inits_of (expr_at d img) img ls) Γ
     inits_bad q = then_bad _ q ∙ sym inits_one
 
 pub call_done : (o : Res (List Arg)) (p : ℕ) (f : Name) (s : Option Sig) {r : Res Typ}

@@ -1,13 +1,14 @@
 -- The tree that is read at a place, a record at a time.
-use mathlib.Core.List.{List}
+use mathlib.Core.List.{List, [], ◌∷◌}
 use mathlib.Core.Path.{◌≡◌, refl}
-use Prim.Native.Nat.{ℕ, zero, suc, ◌-◌, ◌≤◌, ◌<◌}
+use Prim.Native.Nat.{ℕ, zero, suc, ◌-◌}
 use native.Mathlib.Numerals.{sub-one}
 use native.Mathlib.Omega.{arith}
-use borrow.Author.Tests.{ne_eqb, lt-ltb, le-ltb}
-use Rattle.rules.specs.Bytes.{pick, kind_at, after}
+use borrow.Author.Tests.{ne_eqb}
+use Rattle.rules.specs.Bytes.{pick, kind_at}
 use Rattle.rules.specs.Tree.{Expr, Exprs, Inits, place_of}
-use Rattle.rules.specs.Read.{Kind, kInt, kIdent, kStorage, kMapping, kAccess, kLiteral, kBinary, kCall, kOther, kind_of, expr_as, expr_at, exprs_from, inits_from, name_in, second}
+use Rattle.rules.specs.Read.{Kind, kInt, kIdent, kStorage, kMapping, kAccess, kLiteral, kBinary, kCall, kOther, kind_of, expr_as, expr_at, name_in, second}
+use Rattle.bounds.specs.Lists.{exprs_of, inits_of}
 
 pub at_zero : (d : ℕ) (img : List ℕ) (i : ℕ) → d ≡ 0 → expr_at d img i ≡ Expr.no-expr i
 unfolding expr_at
@@ -40,34 +41,21 @@ pub kind_other : (k : ℕ) → (k ≡ 64 → ⊥) → (k ≡ 65 → ⊥) → (k 
 unfolding kind_of pick
 kind_other k a b c d e f g h = simp (ne_eqb _ _ a, ne_eqb _ _ b, ne_eqb _ _ c, ne_eqb _ _ d, ne_eqb _ _ e, ne_eqb _ _ f, ne_eqb _ _ g, ne_eqb _ _ h)
 
--- Lists: none is left, or one more
-module _ (f : ℕ → Expr) (img : List ℕ) where
-  pub exprs_zero : (k p e : ℕ) → k ≡ 0 → exprs_from k f img p e ≡ Exprs.none
-  unfolding exprs_from
-  exprs_zero zero p e h = refl
-  exprs_zero (suc k) p e h = absurd (omega arith)
+-- The trees at some places: none, or one more
+module _ (f : ℕ → Expr) {ps : List ℕ} where
+  pub exprs_none : ps ≡ [] → exprs_of f ps ≡ Exprs.none
+  unfolding exprs_of
+  exprs_none h = rw h
 
-  pub exprs_end : (k p e : ℕ) → e ≤ p → exprs_from k f img p e ≡ Exprs.none
-  unfolding exprs_from
-  exprs_end zero p e h = refl
-  exprs_end (suc k) p e h = simp (le-ltb _ _ h)
+  pub exprs_more : {p : ℕ} {qs : List ℕ} → ps ≡ p ∷ qs → exprs_of f ps ≡ Exprs.more (f p) (exprs_of f qs)
+  unfolding exprs_of
+  exprs_more h = rw h
 
-  pub exprs_more : (k p e : ℕ) → (k ≡ 0 → ⊥) → p < e → exprs_from k f img p e ≡ Exprs.more (f p) (exprs_from (k - 1) f img (after img p) e)
-  unfolding exprs_from
-  exprs_more zero p e h l = absurd (h refl)
-  exprs_more (suc k) p e h l = simp (lt-ltb _ _ l, sub-one)
+  module _ (img : List ℕ) where
+    pub inits_none : ps ≡ [] → inits_of f img ps ≡ Inits.no-init
+    unfolding inits_of
+    inits_none h = rw h
 
-  pub inits_zero : (k p e : ℕ) → k ≡ 0 → inits_from k f img p e ≡ Inits.no-init
-  unfolding inits_from
-  inits_zero zero p e h = refl
-  inits_zero (suc k) p e h = absurd (omega arith)
-
-  pub inits_end : (k p e : ℕ) → e ≤ p → inits_from k f img p e ≡ Inits.no-init
-  unfolding inits_from
-  inits_end zero p e h = refl
-  inits_end (suc k) p e h = simp (le-ltb _ _ h)
-
-  pub inits_more : (k p e : ℕ) → (k ≡ 0 → ⊥) → p < e → inits_from k f img p e ≡ Inits.init p (name_in img p) (f (second img p)) (inits_from (k - 1) f img (after img p) e)
-  unfolding inits_from
-  inits_more zero p e h l = absurd (h refl)
-  inits_more (suc k) p e h l = simp (lt-ltb _ _ l, sub-one)
+    pub inits_more : {p : ℕ} {qs : List ℕ} → ps ≡ p ∷ qs → inits_of f img ps ≡ Inits.init p (name_in img p) (f (second img p)) (inits_of f img qs)
+    unfolding inits_of
+    inits_more h = rw h

@@ -1,15 +1,15 @@
 -- The notes of the accesses, a step at a time.
 -- Assumes nothing.
 use mathlib.Core.List.{List, [], ◌∷◌}
-use mathlib.Core.Path.{◌≡◌, refl, sym, ◌∙◌}
-use Prim.Native.Nat.{ℕ, ◌+◌, ◌-◌, ◌<◌}
-use native.Mathlib.Omega.{arith}
-use Rattle.rules.specs.Bytes.{Name, after}
+use mathlib.Core.Path.{◌≡◌, sym, ◌∙◌}
+use Prim.Native.Nat.{ℕ}
+use Rattle.rules.specs.Bytes.{Name}
 use Rattle.rules.specs.Tree.{Expr, Exprs, Inits, Contract}
 use Rattle.rules.specs.Types.{Typ, Env}
 use Rattle.rules.specs.Refusal.{Res, ok, bad}
 use Rattle.rules.specs.Analyse as analysis
-use Rattle.rules.specs.Read.{second, expr_at, exprs_from, inits_from}
+use Rattle.rules.specs.Read.{second, expr_at}
+use Rattle.bounds.specs.Lists.{exprs_of, inits_of}
 use Rattle.rules.specs.Meant.{behind, of_expr, of_exprs, of_inits}
 use Rattle.rules.specs.Layout.{declared}
 use Rattle.before.specs.Meant.{bad_ok}
@@ -37,23 +37,15 @@ pub access_written : (C : Contract) (p : ℕ) (e : Expr) (x : Name) (Γ : Env) (
 unfolding of_expr
 access_written C p e x Γ N {N₁} m o h g q = record { all = λ u z. in_turn C N (of_expr C e Γ) _ h (one_behind C p x N₁ (g u z) (analysis.expr C e Γ) o u (sym q ∙ z)) }
 
--- before the first argument
-pub args_first : (C : Contract) (N : List ℕ) (Γ : Env) (f : ℕ → Expr) (img : List ℕ) (k p e : ℕ) → written C N (of_exprs C (exprs_from k f img p e) Γ) ≡ written C N (of_exprs C (exprs_from (k - 0) f img p e) Γ)
-args_first C N Γ f img k p e = let z : k - 0 ≡ k = omega arith in rw z refl
-
 -- Arguments and Inits, one at a time.
-module _ (C : Contract) (d : ℕ) (img : List ℕ) (Γ : Env) (N : List ℕ) {N₁ : List ℕ} where
-  pub args_written : (k i p e : ℕ) → i < k → p < e → N₁ ≡ written C N (of_expr C (expr_at d img p) Γ)
-      → written C N (of_exprs C (exprs_from (k - i) (expr_at d img) img p e) Γ) ≡ written C N₁ (of_exprs C (exprs_from (k - (i + 1)) (expr_at d img) img (after img p) e) Γ)
+module _ (C : Contract) (d : ℕ) (img : List ℕ) (Γ : Env) (N : List ℕ) {N₁ : List ℕ} {ls ms : List ℕ} {p : ℕ} (h : ls ≡ p ∷ ms) where
+  pub args_written : N₁ ≡ written C N (of_expr C (expr_at d img p) Γ) → written C N (of_exprs C (exprs_of (expr_at d img) ls) Γ) ≡ written C N₁ (of_exprs C (exprs_of (expr_at d img) ms) Γ)
   unfolding of_exprs
-  args_written k i p e h l w =
-      let z : k - (i + 1) ≡ k - i - 1 = omega arith in
-      rw (z, exprs_more (expr_at d img) img (k - i) p e (λ y. omega arith) l, w) (written_append C N _ _)
+  args_written w = rw (exprs_more (expr_at d img) h, w) (written_append C N _ _)
 
-  pub inits_written : (k p e : ℕ) → (k ≡ 0 → ⊥) → p < e → N₁ ≡ written C N (of_expr C (expr_at d img (second img p)) Γ)
-      → written C N (of_inits C (inits_from k (expr_at d img) img p e) Γ) ≡ written C N₁ (of_inits C (inits_from (k - 1) (expr_at d img) img (after img p) e) Γ)
+  pub inits_written : N₁ ≡ written C N (of_expr C (expr_at d img (second img p)) Γ) → written C N (of_inits C (inits_of (expr_at d img) img ls) Γ) ≡ written C N₁ (of_inits C (inits_of (expr_at d img) img ms) Γ)
   unfolding of_inits
-  inits_written k p e h l w = rw (inits_more (expr_at d img) img k p e h l, w) (written_append C N _ _)
+  inits_written w = rw (inits_more (expr_at d img) img h, w) (written_append C N _ _)
 
 -- at the end of a list
 pub args_all : (C : Contract) (N : List ℕ) (Γ : Env) (es : Exprs) → es ≡ Exprs.none → written C N (of_exprs C es Γ) ≡ N

@@ -60,7 +60,7 @@ use Rattle.seek.specs.Goes.{Goes, IsOk, ran_goes, goes_word, goes_words}
 use Rattle.seek.specs.Found.{nth_later, nth_low, some_same, Found, found_first, found_later, found_front, found_back, each_none, each_more, each_map, Own, found_own, own_say, own_done, own_then, own_asks, own_says, Long, long_done, long_says, long_asks}
 use Rattle.seek.specs.Spots.{plain, called, spot_of, told, Saves}
 use Rattle.trace.specs.Moves.{Blocks}
-use Rattle.why.specs.Tells.{refusing, target_in, start, InFunction, Lies, Opened}
+use Rattle.why.specs.Tells.{refusing, target_in, leads_to, start, InFunction, Lies, Opened}
 use Rattle.why.specs.Parts.{linked_marked, marked_is, marked_some, part, table_length, first_is, targets}
 
 -- The state before a function's first word.
@@ -273,7 +273,7 @@ module _ (C : Contract) (T : List Entry) (F : List ℕ) (few : length C.function
   called_at (Some k) h = rw (lt-ltb k 256 (omega (arith, h, few))) refl
 
   spot_why : (i : ℕ) (w : Open) → because 0 (spot_of C i w).place (target_in F (spot_of C i w)) ≡ because 0 (mark_of w) (target_of T i w)
-  unfolding spot_of target_in pick mark_of target_of
+  unfolding spot_of leads_to pick mark_of target_of
   spot_why i (word p false w) = refl
   spot_why i (word p true w) = refl
   spot_why i (calls p f) = ap (because 0 p) (called_at (last_index (λ (g : Function). g.name) 0 f C.functions) (last_index_low (λ (g : Function). g.name) 0 f C.functions) ∙ sym (same f))

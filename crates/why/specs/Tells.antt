@@ -1,11 +1,11 @@
 -- What the steps of `why` answer (02: P5).
 --     refusing      the build's refusal
---     target_in      where the offset of a spot leads, with the functions' first words F
+--     target_in, leads_to      where the offset of a spot leads, with the functions' first words F
 --     InFunction    the spot of a word of a function
 --     Lies          the function that a word lies in, by the first words F
 --     Opened        the spot of a word of the program
 -- Assumes nothing.
-use Rattle.std.specs.Prelude.{◌≡◌, false, List, ℕ, ◌+◌, ◌≤◌, ◌<◌, eqb, ltb, length, get_or, take, None, Option, Some}
+use Rattle.std.specs.Prelude.{◌≡◌, false, List, ℕ, ◌+◌, ◌≤◌, ◌<◌, ltb, length, get_or, take, None, Option, Some}
 use Rattle.rules.specs.declared.Answer.{Answer}
 use Rattle.rules.specs.declared.Why.{Why}
 use Rattle.rules.specs.Bytes.{pick}
@@ -23,6 +23,8 @@ use Rattle.emit.specs.State.{rules_of}
 use Rattle.codegen.specs.Does.{Checked}
 use Rattle.compiler.specs.Made.{firsts_of}
 use Rattle.seek.specs.declared.Spot.{Spot}
+use Rattle.seek.specs.declared.Way.{Way}
+use Rattle.seek.specs.declared.Way.TheVariants as way
 use Rattle.seek.specs.Found.{Found}
 use Rattle.seek.specs.Spots.{told}
 
@@ -30,8 +32,16 @@ abbrev pub refusing : Answer → Why
 refusing a = record { refusal = a.refusal; place = a.place; patched = false; target = 0 }
 
 -- A jump leads where it says, a call to its function's first word.
-unfoldable pub target_in : List ℕ → Spot → Option ℕ
-target_in F s = pick (eqb s.way 1) (Some s.to) (pick (eqb s.way 2) (pick (ltb s.to 256) (Some (get_or F s.to 0)) None) None)
+unfoldable pub leads_to : List ℕ → (to : ℕ) → Way → Option ℕ
+leads_to F t way.Ahead = Some t
+leads_to F t way.Calls = pick (ltb t 256) (Some (get_or F t 0)) None
+leads_to F t way.Plain = None
+leads_to F t way.Value = None
+leads_to F t way.Block = None
+leads_to F t way.Stmt = None
+
+abbrev pub target_in : List ℕ → Spot → Option ℕ
+target_in F s = leads_to F s.to s.way
 
 -- The state before a function's first word.
 abbrev pub start : ℕ → Tally

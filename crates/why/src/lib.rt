@@ -15,9 +15,11 @@ ghost use Rattle.why.specs.Tells.{refusing, target_in, InFunction, Lies, Located
 
 use compiler::stages;
 use emit::{Rules, St};
+use notes::Analysed;
 use rules::{Answer, Why};
-use seek::Spot;
+use seek::{Spot, Way};
 use sema::front;
+use tables::Contract;
 
 // 02: no word has the index
 const NO_WORD: u64 = 53;
@@ -40,7 +42,7 @@ fn own(place: usize) -> Spot
 {
     Spot {
         place,
-        way: seek::PLAIN,
+        way: Way::Plain,
         to: 0,
     }
 }
@@ -61,18 +63,17 @@ fn popped(st: St, params: usize) -> St
 // Of a function: the Pops, the Push, its statements, and the five words that every function ends with.
 fn in_function(
     scope: &mut [usize],
-    img: &[u8],
-    tables: &[usize],
-    notes: &[u8; notes::SIZE],
+    analysed: &Analysed<'_>,
     rules: Rules,
     f: usize,
     first: usize,
     end: usize,
     want: usize,
 ) -> Spot
-    requires { Given img.now tables.now notes.now scope.old f }
-    ensures { InFunction img.now rules f first end want result }
+    requires { Given analysed.now.contract.img.now analysed.now.contract.tables.now analysed.now.notes.now scope.old f }
+    ensures { InFunction analysed.now.contract.img.now rules f first end want result }
 {
+    let img = analysed.contract.img;
     scope[0] = 0;
     let st = St {
         next: 1,
@@ -96,9 +97,7 @@ fn in_function(
     let w = u.with(0, codegen::next_of(a.reg, params));
     trace::find_stmt(
         scope,
-        img,
-        tables,
-        notes,
+        analysed,
         rules,
         64,
         codegen::statements(img, f),
@@ -127,36 +126,32 @@ fn function_of(firsts: &[usize; 256], count: usize, want: usize) -> usize
 fn in_program(
     scope: &mut [usize],
     firsts: &[usize; 256],
-    img: &[u8],
-    tables: &[usize],
-    notes: &[u8; notes::SIZE],
+    analysed: &Analysed<'_>,
     rules: Rules,
     n: usize,
     want: usize,
 ) -> Spot
-    requires { Located img.now tables.now notes.now scope.old }
-    ensures { Opened img.now rules firsts.now n want result }
+    requires { Located analysed.now.contract.img.now analysed.now.contract.tables.now analysed.now.notes.now scope.old }
+    ensures { Opened analysed.now.contract.img.now rules firsts.now n want result }
 {
     if want == 1 {
         return Spot {
             place: 0,
-            way: seek::CALLS,
-            to: codegen::main_index(img, tables),
+            way: Way::Calls,
+            to: codegen::main_index(&analysed.contract),
         };
     }
     if want < 3 {
         return own(0);
     }
-    let count = tables::function_count(tables);
+    let count = analysed.contract.function_count();
     let k = function_of(firsts, count, want);
     let end = if k + 1 < count { firsts[k + 1] } else { n };
     in_function(
         scope,
-        img,
-        tables,
-        notes,
+        analysed,
         rules,
-        tables::function_place(tables, k),
+        analysed.contract.function_place(k),
         firsts[k],
         end,
         want,
@@ -169,38 +164,34 @@ fn because(firsts: &[usize; 256], s: Spot) -> Why
 {
     let place = s.place as u64;
     let to = s.to;
-    if s.way == seek::AHEAD {
-        return Why {
+    match s.way {
+        Way::Ahead => Why {
             refusal: 0,
             place,
             patched: true,
             target: to as u64,
-        };
-    }
-    if s.way == seek::CALLS {
-        if to < 256 {
-            return Why {
-                refusal: 0,
-                place,
-                patched: true,
-                target: firsts[to] as u64,
-            };
-        }
-    }
-    Why {
-        refusal: 0,
-        place,
-        patched: false,
-        target: 0,
+        },
+        Way::Calls if to < 256 => Why {
+            refusal: 0,
+            place,
+            patched: true,
+            target: firsts[to] as u64,
+        },
+        _ => Why {
+            refusal: 0,
+            place,
+            patched: false,
+            target: 0,
+        },
     }
 }
 
 // Behind analysis and 30: generation, then the walk.
-fn generated(
+fn generated<'a>(
     names: &mut [usize; records::NAMES],
-    image: &[u8],
-    tables: &[usize; tables::SIZE],
-    notes: &[u8; notes::SIZE],
+    image: &'a [u8],
+    tables: &'a [usize],
+    notes: &'a [u8; notes::SIZE],
     index: u64,
 ) -> Why
     requires { Known image.now tables.now notes.now × Passed image.now }
@@ -231,12 +222,12 @@ fn generated(
             target: 0,
         };
     }
+    let contract = Contract { img: image, tables };
+    let analysed = Analysed { contract, notes };
     let s = in_program(
         names,
         &firsts,
-        image,
-        tables,
-        notes,
+        &analysed,
         target,
         a.count as usize,
         index as usize,

@@ -21,14 +21,12 @@ fn refusal(rt: &impl Print, w: Why) -> io::Result<()> {
 }
 
 fn all(rt: &impl Print, image: &[u8]) -> io::Result<()> {
-    let mut i = 0;
-    while i < 8192 {
+    for i in 0..8192 {
         let w = why::why(image, i);
         if w.refusal != 0 {
             return refusal(rt, w);
         }
         println!(rt; "{i} {} {}", w.place, from(w))?;
-        i += 1;
     }
     Ok(())
 }

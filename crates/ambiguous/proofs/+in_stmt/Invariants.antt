@@ -1,8 +1,10 @@
 -- The cycle of in_body, in_for, in_if, in_stmt, in_while, then_body meets its contracts.
 use mathlib.Core.Path.{◌≡◌}
 use Prim.Native.Nat.{◌+◌, ◌*◌}
-use Rattle.rules.specs.Read.{stmt_at_lem, stmts_from, body_at, contract_at}
+use Rattle.rules.specs.Read.{stmt_at_lem, body_at, contract_at}
 use Rattle.rules.specs.Ambiguous.{in_stmts}
+use Rattle.bounds.specs.Lists.{stmts_of}
+use Rattle.records.specs.Records.{places_left}
 use Rattle.ambiguous.proofs.+in_stmt.Given as goal
 
 abbrev pub decreases-in_body : goal.decreases-in_body
@@ -23,8 +25,7 @@ decreases-in_while l = 4 * l.d + 3
 abbrev pub decreases-then_body : goal.decreases-then_body
 decreases-then_body l = 4 * l.d + 2
 
-abbrev pub invariant-in_body-loop-k : goal.invariant-in_body-loop-k
-invariant-in_body-loop-k l = in_stmts (contract_at l.img) (body_at (stmt_at_lem l.d l.img) l.img l.l) ≡ in_stmts (contract_at l.img) (stmts_from l.k (stmt_at_lem l.d l.img) l.img l.p l.end)
-
-abbrev pub decreases-in_body-loop-k : goal.decreases-in_body-loop-k
-decreases-in_body-loop-k l = l.k
+abbrev pub invariant-in_body-loop-p : goal.invariant-in_body-loop-p
+invariant-in_body-loop-p l =
+    ((goal.iterator-in_body-loop-p).can_next l.p-iterator × (goal.iterator-in_body-loop-p).is_finite l.p-iterator)
+    × (in_stmts (contract_at l.analysed.contract.img.now) (body_at (stmt_at_lem l.d l.analysed.contract.img.now) l.analysed.contract.img.now l.l) ≡ in_stmts (contract_at l.analysed.contract.img.now) (stmts_of (stmt_at_lem l.d l.analysed.contract.img.now) (places_left l.p-iterator)))

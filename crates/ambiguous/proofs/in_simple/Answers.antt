@@ -40,4 +40,4 @@ returns-in-42 c = rw c.in-42.is (rw c.body-first.ensures.0 at c.in_expr-in-42.en
 
 pub returns-in_default : goal.returns-in_default
 unfolding in_stmt_lem stmt_as
-returns-in_default c = rw (kind_rest c.args.k (omega arith) (omega arith) (omega arith) (omega arith) (omega arith) c.requires.1.0 c.requires.1.1.0 c.requires.1.1.1 (omega arith) (omega arith) (omega arith))
+returns-in_default c = rw (kind_rest c.args.k (omega arith) (omega arith) (omega arith) (omega arith) (omega arith) c.requires.0 c.requires.1.0 c.requires.1.1 (omega arith) (omega arith) (omega arith))

@@ -7,7 +7,7 @@ use Rattle.codegen.proofs.Pieces.{ready, whole}
 use Rattle.codegen.proofs.gen_function.Goals as goal
 
 pub bind_params-b-requires : goal.bind_params-b-requires
-bind_params-b-requires c = (get_or-set_same c.args.scope.now 0 0 0 (omega (arith, c.requires.size)), (omega (arith, c.requires.size, length-set c.args.scope.now 0 0), c.requires.known.0.small))
+bind_params-b-requires c = (get_or-set_same c.args.scope.now 0 0 0 (omega (arith, c.requires.size)), (omega (arith, c.requires.size, length-set c.args.scope.now 0 0), c.args.analysed.now.contract.tabled.small))
 
 pub pop_params-q-requires : goal.pop_params-q-requires
 pop_params-q-requires c = (omega (arith, c.bind_params-b.ensures.count, c.requires.names), omega (arith, c.bind_params-b.auto.scope, length-set c.args.scope.now 0 0, c.requires.size))

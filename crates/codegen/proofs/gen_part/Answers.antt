@@ -8,4 +8,4 @@ pub gen_function-r-requires : goal.gen_function-r-requires
 gen_function-r-requires c = c.requires
 
 pub returns : goal.returns
-returns c = in_part (raw _) _ c.least-first.ensures c.first_byte-start.ensures c.sum.ensures refl refl c.gen_function-r.ensures
+returns c = in_part (raw _) _ c.min-first.ensures c.first_byte-start.ensures c.sum.ensures refl refl c.gen_function-r.ensures

@@ -5,6 +5,3 @@ use Rattle.codegen.proofs.pop_params.Given as goal
 
 abbrev pub invariant-loop-k : goal.invariant-loop-k
 invariant-loop-k l = Popping l.scope (sinks l.initial.code l.initial.bytes) l.initial.s (sinks l.code l.bytes) l.k l.s
-
-abbrev pub decreases-loop-k : goal.decreases-loop-k
-decreases-loop-k l = l.k

@@ -16,4 +16,4 @@ is-entry img F k place first params e f g = rw (g, f, e) refl
 
 -- src/lib.rt:65:1
 pub returns : goal.returns
-returns c = is-entry c.args.img.now c.args.firsts.now c.args.k _ _ _ (c.function_place-place.ensures _ c.requires.0 c.requires.1.0) refl c.param_count.ensures
+returns c = is-entry c.args.contract.now.img.now c.args.firsts.now c.args.k _ _ _ (c.function_place-place.ensures c.requires.0) refl c.param_count.ensures

@@ -5,13 +5,13 @@ use Rattle.expr.proofs.Loops.{Gathering, args_from, inits_from_lem}
 use Rattle.expr.proofs.+gen_expr.Given as goal
 
 abbrev pub invariant-gen_args-loop-v : goal.invariant-gen_args-loop-v
-invariant-gen_args-loop-v l = Gathering l.img (sinks l.initial.code l.initial.bytes) l.initial.v.st (args_from l.img l.rules l.scope l.d l.e 0 l.first l.initial.v.st.next) (sinks l.code l.bytes) l.vals l.v (args_from l.img l.rules l.scope l.d l.e l.v.count l.p l.v.st.next)
+invariant-gen_args-loop-v l = Gathering l.analysed.contract.img.now (sinks l.initial.code l.initial.bytes) l.initial.v.st (args_from l.analysed.contract.img.now l.rules l.scope l.d l.e 0 l.first l.initial.v.st.next) (sinks l.code l.bytes) l.vals l.v (args_from l.analysed.contract.img.now l.rules l.scope l.d l.e l.v.count l.p l.v.st.next)
 
 abbrev pub decreases-gen_args-loop-v : goal.decreases-gen_args-loop-v
 decreases-gen_args-loop-v l = 64 - l.v.count
 
 abbrev pub invariant-gen_inits-loop-v : goal.invariant-gen_inits-loop-v
-invariant-gen_inits-loop-v l = Gathering l.img (sinks l.initial.code l.initial.bytes) l.initial.v.st (inits_from_lem l.img l.rules l.scope l.d l.e 0 l.first l.initial.v.st.next) (sinks l.code l.bytes) l.vals l.v (inits_from_lem l.img l.rules l.scope l.d l.e l.v.count l.p l.v.st.next)
+invariant-gen_inits-loop-v l = Gathering l.analysed.contract.img.now (sinks l.initial.code l.initial.bytes) l.initial.v.st (inits_from_lem l.analysed.contract.img.now l.rules l.scope l.d l.e 0 l.first l.initial.v.st.next) (sinks l.code l.bytes) l.vals l.v (inits_from_lem l.analysed.contract.img.now l.rules l.scope l.d l.e l.v.count l.p l.v.st.next)
 
 abbrev pub decreases-gen_inits-loop-v : goal.decreases-gen_inits-loop-v
 decreases-gen_inits-loop-v l = 64 - l.v.count

@@ -9,23 +9,17 @@ use native.Mathlib.Omega.{arith}
 use Rattle.fields.proofs.field_offset.Goals as goal
 
 pub loop-i-init : goal.loop-i-init
-loop-i-init c = (omega arith, ap first_of (all c.args.img.now _))
-
-pub position_at-requires : goal.position_at-requires
-position_at-requires c = (c.requires, rw (c.struct_count-n.ensures c.args.img.now c.requires) at c.loop-i-test.true)
+loop-i-init c = ap first_of (all c.args.contract.now.img.now _)
 
 pub overflow_mul-result : goal.overflow_mul-result
 overflow_mul-result c = omega (arith, c.in-Some.ensures.below _ refl)
 
 pub returns-in-Some : goal.returns-in-Some
-returns-in-Some c = offset_at c.args.img.now _ _ _ (c.loop-i.invariant.1 ∙ ap first_of c.in-Some.ensures.is) ∙ ap (searched (contract_at c.args.img.now)) c.name-name.ensures
-
-pub loop-i-smaller : goal.loop-i-smaller
-loop-i-smaller c = omega (arith, c.loop-i-test.true)
+returns-in-Some c = offset_at c.args.contract.now.img.now _ _ _ (c.loop-i.invariant ∙ ap first_of c.in-Some.ensures.is) ∙ ap (searched (contract_at c.args.contract.now.img.now)) c.name-name.ensures
 
 pub loop-i-preserved : goal.loop-i-preserved
 unfolding with_position
-loop-i-preserved c = (omega arith, c.loop-i.invariant.1 ∙ ap first_of (rw c.in_default.is at c.position_at.ensures.is))
+loop-i-preserved c = c.loop-i.invariant ∙ ap first_of (rw c.in_default.is at c.position_at.ensures.is)
 
 pub returns : goal.returns
-returns c = offset_none c.args.img.now _ _ (past_all c.args.img.now _ c.loop-i.i (rw (c.struct_count-n.ensures c.args.img.now c.requires) at c.loop-i-test.false)) c.loop-i.invariant.1 ∙ ap (searched (contract_at c.args.img.now)) c.name-name.ensures
+returns c = offset_none c.args.contract.now.img.now _ _ (past_all c.args.contract.now.img.now _ c.loop-i.i (rw c.struct_count-i-end.ensures at c.loop-i-test.false)) c.loop-i.invariant ∙ ap (searched (contract_at c.args.contract.now.img.now)) c.name-name.ensures

@@ -1,26 +1,35 @@
 -- position meets its contract.
-use Rattle.fields.proofs.Positions.{found_at, found_none}
-use Rattle.fields.specs.Steps.{field_zero, field_end, field_here, field_next}
+use Rattle.std.proofs.Common.{arith, ap, length, inl, refl, sym, ◌∙◌}
+use Rattle.rules.specs.Bytes.{inside, after}
 use Rattle.rules.specs.Read.{fields_at}
-use mathlib.Core.Path.{sym, ◌∙◌}
-use native.Mathlib.Omega.{arith}
+use Rattle.records.specs.Places.{places_few}
+use Rattle.fields.specs.Steps.{left_none, left_here, left_next}
+use Rattle.fields.proofs.Positions.{found_at, found_none}
 use Rattle.fields.proofs.position.Goals as goal
 
 pub loop-n-init : goal.loop-n-init
 unfolding fields_at
-loop-n-init c = (omega arith, rw (c.body-p.ensures.0, c.past-end.ensures.0))
+loop-n-init c =
+    let few = places_few c.args.img.now 64 (inside c.args.img.now c.args.l) (after c.args.img.now c.args.l) in
+    rw (c.into_iter-n-iterator.ensures.into_iter_gives, c.enumerate-n-items.ensures.count, c.enumerate-n-items.ensures.source, c.list.ensures)
+    (((tt, tt, inl (omega (arith, few))), tt), omega (arith, few), refl)
 
 pub returns-then-is_name : goal.returns-then-is_name
-returns-then-is_name c = found_at c.args.img.now c.args.l c.args.x.now c.loop-n.n c.loop-n-test.true (field_here c.args.img.now c.args.x.now 64 c.loop-n.n c.loop-n.p c.past-end.result c.loop-n-test.true c.if-p-end.true (rw (← c.body.ensures.0) (sym c.is_name.ensures ∙ c.if-is_name.true)) ∙ sym c.loop-n.invariant.1)
-
-pub loop-n-smaller : goal.loop-n-smaller
-loop-n-smaller c = omega (arith, c.loop-n-test.true)
+returns-then-is_name c =
+    let steps = c.in-Some.ensures.steps in
+    let fits = c.loop-n.invariant.1 in
+    found_at c.args.img.now c.args.l c.args.x.now c.in-Some.n (omega (arith, fits, steps.1, ap length steps.0))
+    (rw steps.1 (left_here c.args.img.now c.args.x.now _ steps.0 (rw (← c.body.ensures.0) (sym c.is_name.ensures ∙ c.if-is_name.true)) ∙ sym c.loop-n.invariant.2))
 
 pub loop-n-preserved : goal.loop-n-preserved
-loop-n-preserved c = (omega arith, rw c.past-p.ensures.0 (c.loop-n.invariant.1 ∙ field_next c.args.img.now c.args.x.now 64 c.loop-n.n c.loop-n.p c.past-end.result c.loop-n-test.true c.if-p-end.true (rw (← c.body.ensures.0) (sym c.is_name.ensures ∙ c.if-is_name.false))))
+loop-n-preserved c =
+    let steps = c.in-Some.ensures.steps in
+    let fits = c.loop-n.invariant.1 in
+    let less = ap length steps.0 in (
+      ((tt, tt, inl (omega (arith, fits, steps.2, less))), tt),
+      omega (arith, fits, steps.2, less),
+      c.loop-n.invariant.2 ∙ rw steps.2 (left_next c.args.img.now c.args.x.now _ steps.0 (rw (← c.body.ensures.0) (sym c.is_name.ensures ∙ c.if-is_name.false))),
+    )
 
-pub returns-else-p-end : goal.returns-else-p-end
-returns-else-p-end c = found_none c.args.img.now c.args.l c.args.x.now (field_end c.args.img.now c.args.x.now 64 c.loop-n.n c.loop-n.p c.past-end.result c.if-p-end.false ∙ sym c.loop-n.invariant.1)
-
-pub returns-after-loop-n : goal.returns-after-loop-n
-returns-after-loop-n c = found_none c.args.img.now c.args.l c.args.x.now (field_zero c.args.img.now c.args.x.now 64 c.loop-n.n c.loop-n.p c.past-end.result c.loop-n-test.false ∙ sym c.loop-n.invariant.1)
+pub returns : goal.returns
+returns c = found_none c.args.img.now c.args.l c.args.x.now (left_none c.args.img.now c.args.x.now _ c.in-None.ensures.steps.0.0 ∙ sym c.loop-n.invariant.2)

@@ -7,7 +7,7 @@ use Rattle.image.proofs.is_small.Goals as goal
 
 pub returns-then-to-from-eq1 : goal.returns-then-to-from-eq1
 unfolding small
-returns-then-to-from-eq1 c = let a = c.args in rw (eq-eqb (a.to - a.from) 1 (omega arith), ← c.wide.ensures.0)
+returns-then-to-from-eq1 c = let a = c.args in rw (eq-eqb (a.to - a.from) 1 (omega arith), ← c.from.ensures)
 
 pub returns-else-to-from-eq1 : goal.returns-else-to-from-eq1
 unfolding small

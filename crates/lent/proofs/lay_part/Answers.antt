@@ -6,4 +6,4 @@ use Rattle.lent.proofs.lay_part.Goals as goal
 
 pub returns : goal.returns
 unfolding word_bytes
-returns c = rw (c.lay_byte-8.ensures, c.lay_byte-7.ensures, c.lay_byte-6.ensures, c.lay_byte-5.ensures, c.lay_byte-4.ensures, c.lay_byte-3.ensures, c.lay_byte-2.ensures, c.lay_byte.ensures) (stores (8 * c.args.i) _ _ _ _ _ _ _ _ _)
+returns c = rw (c.lay-8.ensures, c.lay-7.ensures, c.lay-6.ensures, c.lay-5.ensures, c.lay-4.ensures, c.lay-3.ensures, c.lay-2.ensures, c.lay.ensures) (stores (8 * c.args.i) _ _ _ _ _ _ _ _ _)

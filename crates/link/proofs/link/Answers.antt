@@ -11,7 +11,7 @@ use Rattle.link.proofs.link.Goals as goal
 
 pub loop-i-init : goal.loop-i-init
 unfolding linked_from
-loop-i-init c = skip c.next_open-i.ensures (record { within = omega arith; room = omega (arith, c.least-end.ensures); same = refl })
+loop-i-init c = skip c.next_open-i.ensures (record { within = omega arith; room = omega (arith, c.min-end.ensures); same = refl })
 
 pub bounds-code-i : goal.bounds-code-i
 bounds-code-i c = omega (arith, long c.loop-i.invariant, c.loop-i.invariant.room, c.loop-i-test.true)
@@ -30,4 +30,4 @@ pub shape_of-code : goal.shape_of-code
 shape_of-code c = long c.loop-i.invariant
 
 pub returns : goal.returns
-returns c = c.loop-i.invariant.same ∙ ap (λ (l : List ℕ). over (linked_from c.args.firsts.now 0 l) c.args.code.now) (taken c.args.code.now c.args.n c.loop-i.i (omega (arith, c.loop-i.invariant.within, c.loop-i-test.false, c.least-end.ensures)))
+returns c = c.loop-i.invariant.same ∙ ap (λ (l : List ℕ). over (linked_from c.args.firsts.now 0 l) c.args.code.now) (taken c.args.code.now c.args.n c.loop-i.i (omega (arith, c.loop-i.invariant.within, c.loop-i-test.false, c.min-end.ensures)))

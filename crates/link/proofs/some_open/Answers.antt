@@ -9,13 +9,10 @@ use Rattle.link.proofs.some_open.Goals.{then-not-fact, else-not-fact}
 use Rattle.link.proofs.some_open.Goals as goal
 
 pub loop-k-preserved : goal.loop-k-preserved
-loop-k-preserved c = (
-  omega arith,
-  λ e. elim c.if-not-fact.branch [
-    | then-not-fact w ↦ absurd (true≢false (sym w.any-is ∙ e))
-    | else-not-fact w ↦ below_more _ _ (c.loop-k.invariant.1 (sym w.any-is ∙ e)) (is_opcode _ c.requires.0 _ (omega arith) c.fact.ensures (not-false _ w.if-not-fact.false))
-  ],
-)
+loop-k-preserved c = λ e. elim c.if-not-fact.branch [
+  | then-not-fact w ↦ absurd (true≢false (sym w.any-is ∙ e))
+  | else-not-fact w ↦ below_more _ _ (c.loop-k.invariant (sym w.any-is ∙ e)) (is_opcode _ c.requires.0 _ (omega arith) c.fact.ensures (not-false _ w.if-not-fact.false))
+]
 
 pub returns : goal.returns
-returns c = λ e m h. c.loop-k.invariant.1 e m (omega (arith, c.loop-k-test.false, h))
+returns c = λ e m h. c.loop-k.invariant e m (omega (arith, h))

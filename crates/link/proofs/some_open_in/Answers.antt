@@ -10,13 +10,10 @@ use Rattle.link.proofs.some_open_in.Goals.{then-not-fact, else-not-fact}
 use Rattle.link.proofs.some_open_in.Goals as goal
 
 pub loop-j-preserved : goal.loop-j-preserved
-loop-j-preserved c = (
-  omega arith,
-  λ e. elim c.if-not-fact.branch [
-    | then-not-fact w ↦ absurd (true≢false (sym w.any-is ∙ e))
-    | else-not-fact w ↦ below_more _ _ (c.loop-j.invariant.1 (sym w.any-is ∙ e)) (is_opcode _ c.requires.0 _ (omega (arith, c.type_inv.out (8 * (c.args.i + c.loop-j.j)))) c.fact.ensures (not-false _ w.if-not-fact.false))
-  ],
-)
+loop-j-preserved c = λ e. elim c.if-not-fact.branch [
+  | then-not-fact w ↦ absurd (true≢false (sym w.any-is ∙ e))
+  | else-not-fact w ↦ below_more _ _ (c.loop-j.invariant (sym w.any-is ∙ e)) (is_opcode _ c.requires.0 _ (omega (arith, c.type_inv.out (8 * (c.args.i + c.loop-j.j)))) c.fact.ensures (not-false _ w.if-not-fact.false))
+]
 
 pub returns : goal.returns
-returns c = λ e m h. c.loop-j.invariant.1 e m (omega (arith, c.loop-j-test.false, h))
+returns c = λ e m h. c.loop-j.invariant e m (omega (arith, h))

@@ -1,5 +1,5 @@
 -- init_fits meets its contract.
-use mathlib.Core.Path.{◌∙◌, ap, sym}
+use mathlib.Core.Path.{◌∙◌, ap}
 use Rattle.lookup.proofs.Fits.{init_missing, init_there}
 use Rattle.lookup.specs.Answers.{checked_of, fault_of, got_of}
 use Rattle.lookup.specs.Results.{ok_or_some, ok_or_none, handed_on, unless_bad, unless_ok}

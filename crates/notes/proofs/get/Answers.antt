@@ -8,7 +8,7 @@ use Rattle.notes.proofs.get.Goals as goal
 
 pub returns-then-i-notes : goal.returns-then-i-notes
 unfolding note_at
-returns-then-i-notes c = c.read.ensures ∙ ap (read_as_lem _) c.wide.ensures
+returns-then-i-notes c = c.read.ensures ∙ ap (read_as_lem _) c.from.ensures
 
 pub returns-else-i-notes : goal.returns-else-i-notes
 unfolding note_at read_as_lem pick

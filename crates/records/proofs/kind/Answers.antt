@@ -9,4 +9,4 @@ pub returns-then-n-i-ge6 : goal.returns-then-n-i-ge6
 returns-then-n-i-ge6 c = omega (arith, kind_bytes c.args.img.now c.args.i)
 
 pub returns : goal.returns
-returns c = (c.kind_cut.ensures.0 ∙ kind_near c.args.img.now c.args.i _ c.least.ensures, c.kind_cut.ensures.1)
+returns c = (c.kind_cut.ensures.0 ∙ kind_near c.args.img.now c.args.i _ c.min.ensures, c.kind_cut.ensures.1)

@@ -6,7 +6,4 @@ use Rattle.seek.specs.Lists.{Down}
 use Rattle.seek.proofs.find_expr.Given as goal
 
 abbrev pub invariant-loop-d : goal.invariant-loop-d
-invariant-loop-d l = (st : St) → l.initial.t ≡ into l.at l.end st → Down l.img l.scope l.rules l.depth l.at st l.end l.want l.d l.t
-
-abbrev pub decreases-loop-d : goal.decreases-loop-d
-decreases-loop-d l = l.d
+invariant-loop-d l = (st : St) → l.initial.t ≡ into l.at l.end st → Down l.analysed.contract.img.now l.scope l.rules l.depth l.at st l.end l.want l.d l.t

@@ -1,10 +1,6 @@
 -- `in_inits` meets its contract.
-use Prim.Native.Nat.{◌-◌, ◌≤◌}
 use Rattle.seek.specs.Lists.{Inits}
 use Rattle.seek.proofs.in_inits.Given as goal
 
 abbrev pub invariant-loop-i : goal.invariant-loop-i
-invariant-loop-i l = (l.i ≤ 64) × Inits l.img l.scope l.rules l.d l.e l.first l.initial.s l.want l.p l.s l.i
-
-abbrev pub decreases-loop-i : goal.decreases-loop-i
-decreases-loop-i l = 64 - l.i
+invariant-loop-i l = Inits l.analysed.contract.img.now l.scope l.rules l.d l.e l.first l.initial.s l.want l.p l.s l._i

@@ -1,9 +1,11 @@
 -- +analyze_stmt meets its contract.
 use Rattle.std.specs.Prelude.{Result}
 use Prim.Native.Nat.{◌*◌, ◌+◌, ◌≤◌, ℕ}
+use Rattle.bounds.specs.Lists.{stmts_of}
+use Rattle.records.specs.Records.{places_left}
 use Rattle.bounds.specs.Sizes.{vars-stmts}
 use Rattle.lookup.specs.Answers.{ty_of}
-use Rattle.rules.specs.Read.{body_at, stmt_at_lem, stmts_from}
+use Rattle.rules.specs.Read.{body_at, stmt_at_lem}
 use Rattle.sema.specs.Steps.{Steps}
 use lib.ListN.{length}
 use Rattle.lookup.specs.declared.Fault.{Fault}
@@ -32,8 +34,10 @@ decreases-analyze_stmt l = 6 * l.d
 abbrev pub decreases-analyze_while : goal.decreases-analyze_while
 decreases-analyze_while l = 6 * l.d + 3
 
-abbrev pub invariant-analyze_list-loop-k : goal.invariant-analyze_list-loop-k
-invariant-analyze_list-loop-k l = (l.t + 2 * vars-stmts (stmts_from l.k (stmt_at_lem l.d l.img) l.img l.p l.end) ≤ length l.env) × ((length l.env ≡ length l.initial.env) × ((e2 M : List ℕ) (r : Result ℕ Fault) → Steps l.img l.env e2 l.notes M l.t r (ty_of l.img l.ret) (stmts_from l.k (stmt_at_lem l.d l.img) l.img l.p l.end) → Steps l.img l.initial.env e2 l.initial.notes M l.top r (ty_of l.img l.ret) (body_at (stmt_at_lem l.d l.img) l.img l.at)))
-
-abbrev pub decreases-analyze_list-loop-k : goal.decreases-analyze_list-loop-k
-decreases-analyze_list-loop-k l = l.k
+abbrev pub invariant-analyze_list-loop-p : goal.invariant-analyze_list-loop-p
+invariant-analyze_list-loop-p l =
+    ((goal.iterator-analyze_list-loop-p).can_next l.p-iterator × (goal.iterator-analyze_list-loop-p).is_finite l.p-iterator)
+    × (l.t + 2 * vars-stmts (stmts_of (stmt_at_lem l.d l.contract.img.now) (places_left l.p-iterator)) ≤ length l.env)
+    × (length l.env ≡ length l.initial.env)
+    × ((e2 M : List ℕ) (r : Result ℕ Fault) → Steps l.contract.img.now l.env e2 l.notes M l.t r (ty_of l.contract.img.now l.ret) (stmts_of (stmt_at_lem l.d l.contract.img.now) (places_left l.p-iterator))
+    → Steps l.contract.img.now l.initial.env e2 l.initial.notes M l.top r (ty_of l.contract.img.now l.ret) (body_at (stmt_at_lem l.d l.contract.img.now) l.contract.img.now l.at))

@@ -7,11 +7,8 @@ use Rattle.rules.specs.Read.{stmt_as}
 use Rattle.sema.proofs.Lists.{emit_bad, emit_done}
 use Rattle.sema.proofs.Runs.{still_bad, still_noted}
 use Rattle.typing.specs.Arguments.{args_of}
-use mathlib.Core.Path.{refl, ◌∙◌, ap, sym}
+use mathlib.Core.Path.{refl}
 use Rattle.sema.proofs.analyze_emit.Goals as goal
-
-pub analyze_args-requires : goal.analyze_args-requires
-analyze_args-requires c = c.requires
 
 pub returns : goal.returns
 unfolding stmt of_stmt stmt_as vars args_of

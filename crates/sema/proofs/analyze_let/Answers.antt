@@ -6,14 +6,11 @@ use Rattle.lookup.specs.Answers.{typed_of}
 use Rattle.rules.specs.Analyse.{stmt}
 use Rattle.rules.specs.Read.{stmt_as}
 use Rattle.sema.proofs.Runs.{first_bad, last_ok, push_step}
-use mathlib.Core.Path.{refl, ◌∙◌, ap, sym}
+use mathlib.Core.Path.{refl}
 use Rattle.sema.proofs.analyze_let.Goals as goal
 
-pub analyze_expr-requires : goal.analyze_expr-requires
-analyze_expr-requires c = c.requires.0
-
 pub push-requires : goal.push-requires
-push-requires c = (c.requires.1, c.requires.0.small)
+push-requires c = (c.requires, c.args.contract.now.tabled.small)
 
 pub returns : goal.returns
 unfolding stmt of_stmt stmt_as vars typed_of

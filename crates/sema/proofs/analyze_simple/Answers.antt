@@ -11,27 +11,6 @@ use Rattle.sema.specs.Steps.{only}
 use mathlib.Core.Path.{refl}
 use Rattle.sema.proofs.analyze_simple.Goals as goal
 
-pub run_expr-requires : goal.run_expr-requires
-run_expr-requires c = c.requires.0
-
-pub analyze_assign-requires : goal.analyze_assign-requires
-analyze_assign-requires c = c.requires.0
-
-pub run_expr-requires-in-35 : goal.run_expr-requires-in-35
-run_expr-requires-in-35 c = c.requires.0
-
-pub analyze_write-requires : goal.analyze_write-requires
-analyze_write-requires c = c.requires.0
-
-pub analyze_return-requires : goal.analyze_return-requires
-analyze_return-requires c = c.requires.0
-
-pub analyze_emit-requires : goal.analyze_emit-requires
-analyze_emit-requires c = c.requires.0
-
-pub run_expr-requires-in-42 : goal.run_expr-requires-in-42
-run_expr-requires-in-42 c = c.requires.0
-
 pub returns-in-33 : goal.returns-in-33
 unfolding stmt of_stmt stmt_as vars stmt_kind_of pick only
 returns-in-33 c = rw c.in-33.is (rw c.body.ensures.0 at c.run_expr.ensures)
@@ -62,4 +41,4 @@ returns-in-42 c = rw c.in-42.is (rw c.body-in-42.ensures.0 at c.run_expr-in-42.e
 
 pub returns-in_default : goal.returns-in_default
 unfolding stmt of_stmt stmt_as vars
-returns-in_default c = rw (kind_rest c.args.k c.requires.1.0 (omega arith) (omega arith) (omega arith) (omega arith) c.requires.1.1.0 c.requires.1.1.1.0 c.requires.1.1.1.1 (omega arith) (omega arith) (omega arith)) (still_ok refl)
+returns-in_default c = rw (kind_rest c.args.k c.requires.0 (omega arith) (omega arith) (omega arith) (omega arith) c.requires.1.0 c.requires.1.1.0 c.requires.1.1.1 (omega arith) (omega arith) (omega arith)) (still_ok refl)

@@ -7,14 +7,8 @@ use Rattle.rules.specs.Analyse.{stmt}
 use Rattle.rules.specs.Read.{stmt_as}
 use Rattle.sema.proofs.Runs.{first_bad, first_ok}
 use Rattle.sema.specs.Steps.{only}
-use mathlib.Core.Path.{refl, ◌∙◌, ap, sym}
+use mathlib.Core.Path.{refl}
 use Rattle.sema.proofs.analyze_write.Goals as goal
-
-pub analyze_expr-requires : goal.analyze_expr-requires
-analyze_expr-requires c = c.requires
-
-pub run_expr-requires : goal.run_expr-requires
-run_expr-requires c = c.requires
 
 pub returns : goal.returns
 unfolding stmt of_stmt stmt_as vars typed_of only

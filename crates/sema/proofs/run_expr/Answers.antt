@@ -3,11 +3,8 @@ use Rattle.lookup.specs.Results.{handed_on}
 use Rattle.lookup.specs.Answers.{typed_of}
 use Rattle.sema.proofs.Runs.{first_bad, last_ok, still_ok}
 use Rattle.sema.specs.Steps.{only}
-use mathlib.Core.Path.{◌∙◌, ap, refl, sym}
+use mathlib.Core.Path.{refl}
 use Rattle.sema.proofs.run_expr.Goals as goal
-
-pub analyze_expr-requires : goal.analyze_expr-requires
-analyze_expr-requires c = c.requires
 
 pub returns : goal.returns
 unfolding only typed_of

@@ -6,7 +6,7 @@ use Rattle.stmt.proofs.Lists.{Loop}
 use Rattle.stmt.proofs.+gen_stmt.Given as goal
 
 abbrev pub invariant-gen_stmts-loop-p : goal.invariant-gen_stmts-loop-p
-invariant-gen_stmts-loop-p l = Loop l.rules (stmt_at_lem l.d l.img) l.img (sinks l.initial.code l.initial.bytes) l.initial.scope l.end l.initial.p l.initial.s (sinks l.code l.bytes) l.scope l.p l.s
+invariant-gen_stmts-loop-p l = Loop l.rules (stmt_at_lem l.d l.analysed.contract.img.now) l.analysed.contract.img.now (sinks l.initial.code l.initial.bytes) l.initial.scope l.end l.initial.p l.initial.s (sinks l.code l.bytes) l.scope l.p l.s
 
 abbrev pub decreases-gen_stmts-loop-p : goal.decreases-gen_stmts-loop-p
 decreases-gen_stmts-loop-p l = l.end - l.p

@@ -14,14 +14,11 @@ use Rattle.stmt.proofs.gen_emit.Goals as goal
 pub loop-p-init : goal.loop-p-init
 loop-p-init c = logs_begin _ _ _ _ _ _ _ _ _
 
-pub gen_expr-v-requires : goal.gen_expr-v-requires
-gen_expr-v-requires c = c.requires.known
-
 pub loop-p-smaller : goal.loop-p-smaller
-loop-p-smaller c = omega (arith, goes_on c.args.img.now c.loop-p.p c.past-end.result c.loop-p-test.true c.past-end.ensures.1, c.past-p.ensures.0)
+loop-p-smaller c = omega (arith, goes_on c.args.analysed.now.contract.img.now c.loop-p.p c.past-end.result c.loop-p-test.true c.past-end.ensures.1, c.past-p.ensures.0)
 
 pub loop-p-preserved : goal.loop-p-preserved
-loop-p-preserved c = logs_go _ _ _ _ _ _ _ _ _ c.requires.known.0.small c.past-end.ensures.1 c.loop-p.invariant c.loop-p-test.true c.past-p.ensures.0 c.gen_expr-v.ensures (c.emit-s.ensures.ran _ _ false) c.emit-s.ensures.next (c.emit-s.auto.code ∙ c.gen_expr-v.auto.code, c.emit-s.auto.bytes ∙ c.gen_expr-v.auto.bytes)
+loop-p-preserved c = logs_go _ _ _ _ _ _ _ _ _ c.args.analysed.now.contract.tabled.small c.past-end.ensures.1 c.loop-p.invariant c.loop-p-test.true c.past-p.ensures.0 c.gen_expr-v.ensures (c.emit-s.ensures.ran _ _ false) c.emit-s.ensures.next (c.emit-s.auto.code ∙ c.gen_expr-v.auto.code, c.emit-s.auto.bytes ∙ c.gen_expr-v.auto.bytes)
 
 pub shape_of-code : goal.shape_of-code
 shape_of-code c = c.loop-p.invariant.room.0

@@ -10,7 +10,7 @@ use Rattle.stmt.proofs.gen_let.Goals as goal
 
 pub bind-requires : goal.bind-requires
 unfolding vars stmt_as
-bind-requires c = (omega (arith, c.requires.names), (c.requires.size, c.requires.known.0.small))
+bind-requires c = (omega (arith, c.requires.names), (c.requires.size, c.args.analysed.now.contract.tabled.small))
 
 pub returns : goal.returns
 unfolding gen_stmt_lem stmt_as vars lets

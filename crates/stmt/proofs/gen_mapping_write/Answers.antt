@@ -8,9 +8,6 @@ use Rattle.stmt.proofs.Laws.{of_45}
 use Rattle.stmt.proofs.Names.{idle}
 use Rattle.stmt.proofs.gen_mapping_write.Goals as goal
 
-pub gen_expr-v-requires : goal.gen_expr-v-requires
-gen_expr-v-requires c = c.requires.known
-
 pub returns : goal.returns
 unfolding gen_stmt_lem stmt_as store_at
 returns c = rw (← c.body-name.ensures.0, ← c.past-key.ensures.0, ← c.past-value.ensures.0, c.with.ensures) (record {

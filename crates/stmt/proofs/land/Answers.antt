@@ -8,7 +8,7 @@ use Rattle.stmt.proofs.land.Goals as goal
 
 pub returns-then-k-end : goal.returns-then-k-end
 unfolding raw bits_of
-returns-then-k-end c = record { stored = λ C p a b. rw (c.word.ensures, cuts, c.wide.ensures.0) at c.patch.ensures }
+returns-then-k-end c = record { stored = λ C p a b. rw (c.word.ensures, cuts, c.from.ensures) at c.patch.ensures }
 
 -- The end is past what a jump reaches, or no block stands behind the slot.
 pub returns-else-end-lt-MOST : goal.returns-else-end-lt-MOST

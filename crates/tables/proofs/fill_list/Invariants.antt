@@ -1,11 +1,13 @@
 -- fill_list meets its contract.
-use Prim.Native.Nat.{◌-◌, ◌≤◌}
-use Rattle.rules.specs.Read.{places_in, places_from}
+use Prim.Native.Nat.{◌+◌, ◌≤◌}
+use lib.ListN.{length}
+use Rattle.rules.specs.Read.{places_in}
+use Rattle.records.specs.Records.{places_left}
 use Rattle.tables.proofs.Fill.{Filled}
 use Rattle.tables.proofs.fill_list.Given as goal
 
-abbrev pub invariant-loop-n : goal.invariant-loop-n
-invariant-loop-n l = (l.n ≤ l.most) × Filled l.img l.initial.t l.t l.base (places_in l.most l.img l.l) (places_from (l.most - l.n) l.img l.p l.end) l.n
-
-abbrev pub decreases-loop-n : goal.decreases-loop-n
-decreases-loop-n l = l.most - l.n
+abbrev pub invariant-loop-p : goal.invariant-loop-p
+invariant-loop-p l =
+    ((goal.iterator-loop-p).can_next l.p-iterator × (goal.iterator-loop-p).is_finite l.p-iterator)
+    × (l.n + length (places_left l.p-iterator) ≤ l.most)
+    × Filled l.img l.initial.t l.t l.base (places_in l.most l.img l.l) (places_left l.p-iterator) l.n

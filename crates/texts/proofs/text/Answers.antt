@@ -6,7 +6,7 @@ use Rattle.texts.specs.Laws.{generate_room, judged_room, told_generated, told_re
 use Rattle.texts.proofs.text.Goals as goal
 
 pub returns-then-out-lt256 : goal.returns-then-out-lt256
-returns-then-out-lt256 c = short_answer c.args.image.now c.args.out.now c.if-out-lt256.true refl
+returns-then-out-lt256 c = short_answer c.args.image.now c.args.out.now c.if-out-lt256.true c.of.ensures
 
 pub judge-requires : goal.judge-requires
 judge-requires c = blank

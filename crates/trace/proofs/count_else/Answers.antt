@@ -6,7 +6,7 @@ use Rattle.trace.specs.Moves.{other, none}
 use Rattle.trace.proofs.count_else.Goals as goal
 
 pub count_stmts-requires : goal.count_stmts-requires
-count_stmts-requires c = rw (else_some (stmt_at_lem c.args.d c.args.img.now) c.args.img.now c.args.list c.args.stop c.if-list-stop.true) at c.requires
+count_stmts-requires c = rw (else_some (stmt_at_lem c.args.d c.args.analysed.now.contract.img.now) c.args.analysed.now.contract.img.now c.args.list c.args.stop c.if-list-stop.true) at c.requires
 
 pub shape_of-scope : goal.shape_of-scope
 shape_of-scope c = c.count_stmts.auto.scope

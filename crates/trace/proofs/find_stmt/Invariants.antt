@@ -6,7 +6,4 @@ use Rattle.trace.specs.Lists.{Down}
 use Rattle.trace.proofs.find_stmt.Given as goal
 
 abbrev pub invariant-loop-d : goal.invariant-loop-d
-invariant-loop-d l = (st : St) → l.initial.t ≡ entering l.list l.end st → Down l.img l.tables l.notes l.initial.scope l.rules l.depth l.list st l.end l.want l.scope l.d l.t
-
-abbrev pub decreases-loop-d : goal.decreases-loop-d
-decreases-loop-d l = l.d
+invariant-loop-d l = (st : St) → l.initial.t ≡ entering l.list l.end st → Down l.analysed.contract.img.now l.analysed.contract.tables.now l.analysed.notes.now l.initial.scope l.rules l.depth l.list st l.end l.want l.scope l.d l.t

@@ -6,14 +6,8 @@ use Rattle.bounds.specs.Sizes.{vars}
 use Rattle.trace.specs.Parts.{for_from, for_to, for_add, for_lt, for_loop}
 use Rattle.trace.proofs.in_for.Goals as goal
 
-pub count_expr-v-requires : goal.count_expr-v-requires
-count_expr-v-requires c = c.requires.known
-
 pub returns-then-want-v : goal.returns-then-want-v
 returns-then-want-v c = for_from c.body-var.ensures.0 c.past-from.ensures.0 c.count_expr-v.ensures c.if-want-v.true c.value.ensures
-
-pub count_expr-w-requires : goal.count_expr-w-requires
-count_expr-w-requires c = c.requires.known
 
 pub returns-then-want-w : goal.returns-then-want-w
 returns-then-want-w c = for_to c.body-var.ensures.0 c.past-from.ensures.0 c.past-to.ensures.0 c.count_expr-v.ensures c.if-want-v.false c.count_expr-w.ensures c.if-want-w.true c.value-then-want-w.ensures
@@ -26,7 +20,7 @@ returns-then-want-l c = for_lt (record { var = c.body-var.ensures.0; from = c.pa
 
 pub bind-requires : goal.bind-requires
 unfolding vars stmt_as
-bind-requires c = (omega (arith, c.requires.names), (c.requires.size, c.requires.known.0.small))
+bind-requires c = (omega (arith, c.requires.names), (c.requires.size, c.args.analysed.now.contract.tabled.small))
 
 pub shape_of-scope : goal.shape_of-scope
 shape_of-scope c = c.bind.auto.scope

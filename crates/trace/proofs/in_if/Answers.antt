@@ -8,9 +8,6 @@ use Rattle.stmt.proofs.Trees.{third_is}
 use Rattle.trace.specs.Parts.{if_cond, if_jnz, if_else, if_jmp, if_then}
 use Rattle.trace.proofs.in_if.Goals as goal
 
-pub count_expr-v-requires : goal.count_expr-v-requires
-count_expr-v-requires c = c.requires.known
-
 pub returns-then-want-v : goal.returns-then-want-v
 returns-then-want-v c = if_cond c.body-cond.ensures.0 c.count_expr-v.ensures c.if-want-v.true c.value.ensures
 
@@ -19,7 +16,7 @@ bounds-scope-0 c = omega (arith, c.requires.size)
 
 pub count_else-e-requires : goal.count_else-e-requires
 unfolding vars stmt_as
-count_else-e-requires c = rw (third_is c.args.img.now c.args.at c.body-cond.ensures.0 c.past-then.ensures.0 c.past-other.ensures.0, c.past-stop.ensures.0) (fewer c.requires (omega arith))
+count_else-e-requires c = rw (third_is c.args.analysed.now.contract.img.now c.args.at c.body-cond.ensures.0 c.past-then.ensures.0 c.past-other.ensures.0, c.past-stop.ensures.0) (fewer c.requires (omega arith))
 
 pub shape_of-scope-then-want-a : goal.shape_of-scope-then-want-a
 shape_of-scope-then-want-a c = c.count_else-e.auto.scope

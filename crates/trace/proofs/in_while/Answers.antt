@@ -2,9 +2,6 @@
 use Rattle.trace.specs.Parts.{while_cond, while_loop}
 use Rattle.trace.proofs.in_while.Goals as goal
 
-pub count_expr-v-requires : goal.count_expr-v-requires
-count_expr-v-requires c = c.requires.known
-
 pub returns-then-want-v : goal.returns-then-want-v
 returns-then-want-v c = while_cond c.body-cond.ensures.0 c.count_expr-v.ensures c.if-want-v.true c.value.ensures
 

@@ -1,14 +1,16 @@
 -- The cycle {analyze_access, analyze_args, analyze_binary, analyze_call, analyze_expr, analyze_init, analyze_inits, analyze_literal, analyze_mapping}: the needs of each member are in a file of its own.
 use Rattle.lookup.specs.Answers.{env_of, due_of, misfit_of}
 use Rattle.rules.specs.Analyse.{inits}
-use Rattle.rules.specs.Read.{contract_at, expr_at, exprs_from, inits_from, struct_at}
+use Rattle.rules.specs.Read.{contract_at, expr_at, struct_at}
+use Rattle.bounds.specs.Lists.{exprs_of, inits_of}
+use Rattle.records.specs.Records.{places_left}
 use mathlib.Core.Path.{◌≡◌}
-use Prim.Native.Nat.{◌-◌, ◌≤◌, ◌*◌, ◌+◌}
+use Prim.Native.Nat.{◌*◌, ◌+◌, ◌≤◌}
 use Rattle.rules.specs.Refusal.{◌>>=◌}
 use Rattle.rules.specs.Meant.{of_exprs, of_inits}
 use Rattle.notes.specs.Notes.{written}
 use Rattle.typing.specs.Arguments.{behind, exprs_in, sum_args, inits_in}
-use lib.ListN.{drop}
+use lib.ListN.{drop, length}
 use Rattle.typing.proofs.+analyze_expr.Given as goal
 
 abbrev pub decreases-analyze_access : goal.decreases-analyze_access
@@ -38,14 +40,16 @@ decreases-analyze_literal l = 4 * l.d + 3
 abbrev pub decreases-analyze_mapping : goal.decreases-analyze_mapping
 decreases-analyze_mapping l = 4 * l.d + 3
 
-abbrev pub invariant-analyze_args-loop-i : goal.invariant-analyze_args-loop-i
-invariant-analyze_args-loop-i l = (written (contract_at l.img) l.initial.notes (of_exprs (contract_at l.img) (exprs_in l.left l.d l.img l.l) (env_of l.img l.env l.top)) ≡ written (contract_at l.img) l.notes (of_exprs (contract_at l.img) (exprs_from (l.left - l.i) (expr_at l.d l.img) l.img l.p l.end) (env_of l.img l.env l.top))) × ((l.i ≤ l.left) × ((due_of l.img l.due ≡ drop l.i (due_of l.img l.initial.due)) × (sum_args (contract_at l.img) (due_of l.img l.initial.due) 0 (exprs_in l.left l.d l.img l.l) (env_of l.img l.env l.top) ≡ (sum_args (contract_at l.img) (due_of l.img l.initial.due) l.i (exprs_from (l.left - l.i) (expr_at l.d l.img) l.img l.p l.end) (env_of l.img l.env l.top) >>= behind (misfit_of l.misfit)))))
+abbrev pub invariant-analyze_args-loop-p : goal.invariant-analyze_args-loop-p
+invariant-analyze_args-loop-p l =
+    ((goal.iterator-analyze_args-loop-p).can_next l.p-iterator × (goal.iterator-analyze_args-loop-p).is_finite l.p-iterator)
+    × (l.n + length (places_left l.p-iterator) ≤ l.left)
+    × (written (contract_at l.contract.img.now) l.initial.notes (of_exprs (contract_at l.contract.img.now) (exprs_in l.left l.d l.contract.img.now l.l) (env_of l.contract.img.now l.env l.top)) ≡ written (contract_at l.contract.img.now) l.notes (of_exprs (contract_at l.contract.img.now) (exprs_of (expr_at l.d l.contract.img.now) (places_left l.p-iterator)) (env_of l.contract.img.now l.env l.top)))
+    × (due_of l.contract.img.now l.due ≡ drop l.n (due_of l.contract.img.now l.initial.due))
+    × (sum_args (contract_at l.contract.img.now) (due_of l.contract.img.now l.initial.due) 0 (exprs_in l.left l.d l.contract.img.now l.l) (env_of l.contract.img.now l.env l.top) ≡ (sum_args (contract_at l.contract.img.now) (due_of l.contract.img.now l.initial.due) l.n (exprs_of (expr_at l.d l.contract.img.now) (places_left l.p-iterator)) (env_of l.contract.img.now l.env l.top) >>= behind (misfit_of l.misfit)))
 
-abbrev pub decreases-analyze_args-loop-i : goal.decreases-analyze_args-loop-i
-decreases-analyze_args-loop-i l = l.left - l.i
-
-abbrev pub invariant-analyze_inits-loop-k : goal.invariant-analyze_inits-loop-k
-invariant-analyze_inits-loop-k l = (written (contract_at l.img) l.initial.notes (of_inits (contract_at l.img) (inits_in l.d l.img l.l) (env_of l.img l.env l.top)) ≡ written (contract_at l.img) l.notes (of_inits (contract_at l.img) (inits_from l.k (expr_at l.d l.img) l.img l.p l.end) (env_of l.img l.env l.top))) × (inits (contract_at l.img) (struct_at l.img l.s) (inits_in l.d l.img l.l) (env_of l.img l.env l.top) ≡ inits (contract_at l.img) (struct_at l.img l.s) (inits_from l.k (expr_at l.d l.img) l.img l.p l.end) (env_of l.img l.env l.top))
-
-abbrev pub decreases-analyze_inits-loop-k : goal.decreases-analyze_inits-loop-k
-decreases-analyze_inits-loop-k l = l.k
+abbrev pub invariant-analyze_inits-loop-p : goal.invariant-analyze_inits-loop-p
+invariant-analyze_inits-loop-p l =
+    ((goal.iterator-analyze_inits-loop-p).can_next l.p-iterator × (goal.iterator-analyze_inits-loop-p).is_finite l.p-iterator)
+    × (written (contract_at l.contract.img.now) l.initial.notes (of_inits (contract_at l.contract.img.now) (inits_in l.d l.contract.img.now l.l) (env_of l.contract.img.now l.env l.top)) ≡ written (contract_at l.contract.img.now) l.notes (of_inits (contract_at l.contract.img.now) (inits_of (expr_at l.d l.contract.img.now) l.contract.img.now (places_left l.p-iterator)) (env_of l.contract.img.now l.env l.top)))
+    × (inits (contract_at l.contract.img.now) (struct_at l.contract.img.now l.s) (inits_in l.d l.contract.img.now l.l) (env_of l.contract.img.now l.env l.top) ≡ inits (contract_at l.contract.img.now) (struct_at l.contract.img.now l.s) (inits_of (expr_at l.d l.contract.img.now) l.contract.img.now (places_left l.p-iterator)) (env_of l.contract.img.now l.env l.top))

@@ -1,49 +1,48 @@
 -- `why::because` meets its contract.
 use mathlib.Core.Path.{◌≡◌, refl}
-use mathlib.Core.Bool.{true, false}
 use mathlib.Core.List.{List}
 use Prim.Native.Nat.{ℕ, ◌≤◌, ◌<◌}
 use native.Mathlib.Omega.{arith}
 use lib.ListN.{get_or}
-use borrow.Author.Tests.{eq-eqb, ne_eqb, lt-ltb, le-ltb}
-use Rattle.rules.specs.declared.Why.{Why}
+use borrow.Author.Rules.{rules}
+use borrow.Author.Tests.{lt-ltb, le-ltb}
+use Rattle.std.specs.Prelude.{None, Some}
 use Rattle.rules.specs.Bytes.{pick}
 use Rattle.rules.specs.Why.{because}
-use Rattle.seek.specs.declared.Spot.{Spot}
-use Rattle.why.specs.Tells.{target_in}
+use Rattle.seek.specs.declared.Way.{Way}
+use Rattle.seek.specs.declared.Way.TheVariants as way
+use Rattle.why.specs.Tells.{leads_to}
 use Rattle.why.proofs.because.Goals as goal
 
--- The answer for a spot with a target, and for one without.
-abbrev led : Spot → ℕ → Why
-led s t = record { refusal = 0; place = s.place; patched = true; target = t }
+calling : (F : List ℕ) (t : ℕ) → t < 256 → leads_to F t way.Calls ≡ Some (get_or F t 0)
+unfolding leads_to pick
+calling F t l = rw (lt-ltb t 256 l) refl
 
-abbrev unled : Spot → Why
-unled s = record { refusal = 0; place = s.place; patched = false; target = 0 }
+nowhere : (F : List ℕ) (t : ℕ) → 256 ≤ t → leads_to F t way.Calls ≡ None
+unfolding leads_to pick
+nowhere F t l = rw (le-ltb t 256 l) refl
 
-ahead : (F : List ℕ) (s : Spot) → s.way ≡ 1 → led s s.to ≡ because 0 s.place (target_in F s)
-unfolding because target_in pick
-ahead F s e = rw (eq-eqb s.way 1 e) refl
+neither : (F : List ℕ) (t : ℕ) (w : Way) → (w ≡ way.Ahead → ⊥) → (w ≡ way.Calls → ⊥) → leads_to F t w ≡ None
+unfolding leads_to
+neither F t way.Ahead a b = absurd (a refl)
+neither F t way.Calls a b = absurd (b refl)
+neither F t way.Plain a b = refl
+neither F t way.Value a b = refl
+neither F t way.Block a b = refl
+neither F t way.Stmt a b = refl
 
-calling : (F : List ℕ) (s : Spot) → s.way ≡ 2 → s.to < 256 → led s (get_or F s.to 0) ≡ because 0 s.place (target_in F s)
-unfolding because target_in pick
-calling F s e l = rw (ne_eqb s.way 1 (λ z. omega (arith, e, z)), eq-eqb s.way 2 e, lt-ltb s.to 256 l) refl
+pub returns-in-Ahead : goal.returns-in-Ahead
+unfolding because leads_to
+returns-in-Ahead c = rw c.in-Ahead.is refl
 
-nowhere : (F : List ℕ) (s : Spot) → s.way ≡ 2 → 256 ≤ s.to → unled s ≡ because 0 s.place (target_in F s)
-unfolding because target_in pick
-nowhere F s e l = rw (ne_eqb s.way 1 (λ z. omega (arith, e, z)), eq-eqb s.way 2 e, le-ltb s.to 256 l) refl
+pub returns-in-Calls : goal.returns-in-Calls
+unfolding because
+returns-in-Calls c = rw (c.in-Calls.is, calling c.args.firsts.now c.args.s.to c.if-to-lt256.true) refl
 
-neither : (F : List ℕ) (s : Spot) → (s.way ≡ 1 → ⊥) → (s.way ≡ 2 → ⊥) → unled s ≡ because 0 s.place (target_in F s)
-unfolding because target_in pick
-neither F s e f = rw (ne_eqb s.way 1 e, ne_eqb s.way 2 f) refl
+pub returns-in_default : goal.returns-in_default
+unfolding because
+returns-in_default c = rw (c.in-Calls.is, nowhere c.args.firsts.now c.args.s.to c.if-to-lt256.false) refl
 
-pub returns-then-s-eq-AHEAD : goal.returns-then-s-eq-AHEAD
-returns-then-s-eq-AHEAD c = ahead c.args.firsts.now c.args.s c.if-s-eq-AHEAD.true
-
-pub returns-then-to-lt256 : goal.returns-then-to-lt256
-returns-then-to-lt256 c = calling c.args.firsts.now c.args.s c.if-s-eq-CALLS.true c.if-to-lt256.true
-
-pub returns-else-to-lt256 : goal.returns-else-to-lt256
-returns-else-to-lt256 c = nowhere c.args.firsts.now c.args.s c.if-s-eq-CALLS.true c.if-to-lt256.false
-
-pub returns-else-s-eq-CALLS : goal.returns-else-s-eq-CALLS
-returns-else-s-eq-CALLS c = neither c.args.firsts.now c.args.s c.if-s-eq-AHEAD.false c.if-s-eq-CALLS.false
+pub returns-in_default-2 : goal.returns-in_default-2
+unfolding because
+returns-in_default-2 c = rw (neither c.args.firsts.now c.args.s.to c.args.s.way c.in_default.not-Ahead (search rules)) refl

@@ -10,7 +10,7 @@ use Rattle.why.specs.Answers.{entry_own, exit_own, inside}
 use Rattle.why.proofs.in_function.Goals as goal
 
 pub bind_params-b-requires : goal.bind_params-b-requires
-bind_params-b-requires c = (get_or-set_same c.args.scope.now 0 0 0 (omega (arith, c.requires.size)), (omega (arith, c.requires.size, length-set c.args.scope.now 0 0), c.requires.known.0.small))
+bind_params-b-requires c = (get_or-set_same c.args.scope.now 0 0 0 (omega (arith, c.requires.size)), (omega (arith, c.requires.size, length-set c.args.scope.now 0 0), c.args.analysed.now.contract.tabled.small))
 
 pub bounds-scope-0-2 : goal.bounds-scope-0-2
 bounds-scope-0-2 c = omega (arith, c.bind_params-b.auto.scope, length-set c.args.scope.now 0 0, c.requires.size)

@@ -1,5 +1,4 @@
 -- is_ambiguous meets its contract.
-use Prim.Native.Nat.{◌-◌, ◌≤◌}
 use Rattle.ambiguous.proofs.Clashes.{remains}
 use Rattle.fields.specs.Spots.{positions_from}
 use Rattle.ambiguous.specs.Spots.{unsure}
@@ -8,7 +7,4 @@ use mathlib.Core.Path.{◌≡◌}
 use Rattle.ambiguous.proofs.apart.is_ambiguous.Given as goal
 
 abbrev pub invariant-loop-i : goal.invariant-loop-i
-invariant-loop-i l = (l.i ≤ l.n) × (unsure (contract_at l.img) l.name ≡ remains l.first (positions_from l.img l.name l.i))
-
-abbrev pub decreases-loop-i : goal.decreases-loop-i
-decreases-loop-i l = l.n - l.i
+invariant-loop-i l = unsure (contract_at l.contract.img.now) l.name ≡ remains l.first (positions_from l.contract.img.now l.name l.i)

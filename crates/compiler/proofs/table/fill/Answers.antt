@@ -34,24 +34,24 @@ all img F t₀ e = rw e refl
 -- src/table.rt:37:5
 pub loop-k-init : goal.loop-k-init
 unfolding spread below
-loop-k-init c = (omega arith, refl)
+loop-k-init c = refl
 
 -- src/table.rt:39:32
 pub bounds-firsts-k : goal.bounds-firsts-k
-bounds-firsts-k c = omega (arith, c.loop-k-test.true, c.requires.1.0, few 256 c.args.img.now (fourth c.args.img.now 0))
+bounds-firsts-k c = omega (arith, c.loop-k-test.true, c.function_count-k-end.ensures, few 256 c.args.contract.now.img.now (fourth c.args.contract.now.img.now 0))
 
 -- src/table.rt:39:9
 pub write-requires : goal.write-requires
-write-requires c = omega (arith, long c.args.img.now c.args.firsts.now c.args.table.now c.loop-k.table c.loop-k.k c.loop-k.invariant.1, c.loop-k-test.true, c.requires.1.1)
+write-requires c = omega (arith, long c.args.contract.now.img.now c.args.firsts.now c.args.table.now c.loop-k.table c.loop-k.k c.loop-k.invariant, c.loop-k-test.true, c.function_count-k-end.ensures, c.requires)
 
 -- src/table.rt:37:5
 pub loop-k-preserved : goal.loop-k-preserved
-loop-k-preserved c = (omega (arith, c.loop-k-test.true), c.write.ensures ∙ next c.args.img.now c.args.firsts.now c.args.table.now c.loop-k.table c.loop-k.k _ _ _ (c.function_place-place.ensures _ c.requires.0 (omega (arith, c.requires.1.0, c.loop-k-test.true))) refl c.param_count.ensures c.loop-k.invariant.1)
+loop-k-preserved c = c.write.ensures ∙ next c.args.contract.now.img.now c.args.firsts.now c.args.table.now c.loop-k.table c.loop-k.k _ _ _ (c.function_place-place.ensures (omega (arith, c.function_count-k-end.ensures, c.loop-k-test.true))) refl c.param_count.ensures c.loop-k.invariant
 
 -- src/table.rt:32:1
 pub shape_of-table : goal.shape_of-table
-shape_of-table c = long c.args.img.now c.args.firsts.now c.args.table.now c.loop-k.table c.loop-k.k c.loop-k.invariant.1
+shape_of-table c = long c.args.contract.now.img.now c.args.firsts.now c.args.table.now c.loop-k.table c.loop-k.k c.loop-k.invariant
 
 -- src/table.rt:32:1
 pub returns : goal.returns
-returns c = c.loop-k.invariant.1 ∙ all c.args.img.now c.args.firsts.now c.args.table.now (omega (arith, c.loop-k.invariant.0, c.loop-k-test.false))
+returns c = c.loop-k.invariant ∙ all c.args.contract.now.img.now c.args.firsts.now c.args.table.now (omega (arith, c.function_count-k-end.ensures, c.loop-k.auto.k-end, c.loop-k-test.false))

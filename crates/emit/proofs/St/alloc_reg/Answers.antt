@@ -8,8 +8,8 @@ use Rattle.emit.proofs.St.alloc_reg.Goals as goal
 
 -- src/lib.rt:84:5
 pub returns-then-next-free : goal.returns-then-next-free
-returns-then-next-free c = took _ _ _ _ (omega arith) (rw c.wide-free.ensures.0 at c.if-next-free.true) c.with.ensures
+returns-then-next-free c = took _ _ _ _ (omega arith) (rw c.from-free.ensures at c.if-next-free.true) c.with.ensures
 
 -- src/lib.rt:84:5
 pub returns-else-next-free : goal.returns-else-next-free
-returns-else-next-free c = took_not _ _ _ _ _ (omega arith) (rw c.wide-free.ensures.0 at c.if-next-free.false) c.fail-st.ensures (c.with-else-next-free.ensures ∙ ap (λ (n : ℕ). moved c.fail-st.result n (n + 1)) c.wide-free.ensures.0)
+returns-else-next-free c = took_not _ _ _ _ _ (omega arith) (rw c.from-free.ensures at c.if-next-free.false) c.fail-st.ensures (c.with-else-next-free.ensures ∙ ap (λ (n : ℕ). moved c.fail-st.result n (n + 1)) c.from-free.ensures)

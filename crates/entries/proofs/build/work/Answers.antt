@@ -1,6 +1,5 @@
 -- `work` meets its contract: a build for the public target.
-use borrow.Author.Rules.{rules}
 use Rattle.entries.proofs.build.work.Goals as goal
 
 pub returns : goal.returns
-returns c = (λ t e. rw c.target.ensures.0 at (c.make-answer.ensures t e), search rules)
+returns c t e = rw c.target.ensures.0 at (c.make-answer.ensures t e)

@@ -8,16 +8,16 @@ pub loop-j-init : goal.loop-j-init
 loop-j-init c = begins (pops c.args.k) c.args.n c.args.end 0 c.args.bytes.now bytes
 
 pub overflow_sub-k : goal.overflow_sub-k
-overflow_sub-k c = omega (arith, c.loop-j-test.true, c.loop-j.invariant.place, c.least-stop.ensures, c.requires)
+overflow_sub-k c = omega (arith, c.loop-j-test.true, c.loop-j.invariant.place, c.min-stop.ensures, c.requires)
 
 pub store_word-requires : goal.store_word-requires
-store_word-requires c = omega (arith, c.loop-j-test.true, c.least-stop.ensures, c.loop-j.invariant.room)
+store_word-requires c = omega (arith, c.loop-j-test.true, c.min-stop.ensures, c.loop-j.invariant.room)
 
 pub overflow_add-i : goal.overflow_add-i
 overflow_add-i c = omega (arith, c.loop-j-test.true, c.loop-j.invariant.place)
 
 pub loop-j-preserved : goal.loop-j-preserved
-loop-j-preserved c = bytes_go (pops c.args.k) c.args.n c.args.end 0 c.args.bytes.now c.loop-j.invariant (omega (arith, c.loop-j-test.true, c.least-stop.ensures)) c.word.ensures c.store_word.ensures
+loop-j-preserved c = bytes_go (pops c.args.k) c.args.n c.args.end 0 c.args.bytes.now c.loop-j.invariant (omega (arith, c.loop-j-test.true, c.min-stop.ensures)) c.word.ensures c.store_word.ensures
 
 pub overflow_sub-k-then-j-end : goal.overflow_sub-k-then-j-end
 overflow_sub-k-then-j-end c = omega (arith, c.if-j-end.true, c.loop-j.invariant.place, c.requires)
@@ -26,7 +26,7 @@ pub shape_of-bytes-then-j-end : goal.shape_of-bytes-then-j-end
 shape_of-bytes-then-j-end c = c.lay_word.auto.bytes ∙ c.loop-j.invariant.room
 
 pub returns-then-j-end : goal.returns-then-j-end
-returns-then-j-end c = bytes_last (pops c.args.k) c.args.n c.args.end 0 c.args.bytes.now c.loop-j.invariant (omega (arith, c.loop-j-test.false, c.least-stop.ensures)) c.if-j-end.true c.word-then-j-end.ensures c.lay_word.ensures
+returns-then-j-end c = bytes_last (pops c.args.k) c.args.n c.args.end 0 c.args.bytes.now c.loop-j.invariant (omega (arith, c.loop-j-test.false, c.min-stop.ensures)) c.if-j-end.true c.word-then-j-end.ensures c.lay_word.ensures
 
 pub shape_of-bytes-else-j-end : goal.shape_of-bytes-else-j-end
 shape_of-bytes-else-j-end c = c.loop-j.invariant.room

@@ -10,13 +10,13 @@ pub overflow_add-i : goal.overflow_add-i
 overflow_add-i c = omega (arith, c.loop-j-test.true, c.loop-j.invariant.place)
 
 pub bounds-code-j : goal.bounds-code-j
-bounds-code-j c = omega (arith, c.loop-j-test.true, c.least-stop.ensures, c.loop-j.invariant.room)
+bounds-code-j c = omega (arith, c.loop-j-test.true, c.min-stop.ensures, c.loop-j.invariant.room)
 
 pub loop-j-preserved : goal.loop-j-preserved
-loop-j-preserved c = numbers_go pushes c.args.n c.args.end 1 c.args.code.now c.loop-j.invariant (omega (arith, c.loop-j-test.true, c.least-stop.ensures)) c.word.ensures
+loop-j-preserved c = numbers_go pushes c.args.n c.args.end 1 c.args.code.now c.loop-j.invariant (omega (arith, c.loop-j-test.true, c.min-stop.ensures)) c.word.ensures
 
 pub shape_of-code : goal.shape_of-code
 shape_of-code c = c.loop-j.invariant.room
 
 pub returns : goal.returns
-returns c = numbers_end pushes c.args.n c.args.end 1 c.args.code.now c.loop-j.invariant (omega (arith, c.loop-j-test.false, c.least-stop.ensures))
+returns c = numbers_end pushes c.args.n c.args.end 1 c.args.code.now c.loop-j.invariant (omega (arith, c.loop-j-test.false, c.min-stop.ensures))

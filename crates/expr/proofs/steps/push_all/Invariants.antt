@@ -7,6 +7,3 @@ use Rattle.expr.proofs.steps.push_all.Given as goal
 
 abbrev pub invariant-loop-i : goal.invariant-loop-i
 invariant-loop-i l = Saying l.st (sinks l.initial.code l.initial.bytes) (argued (regs_in l.vals 0 l.n)) l.k (sinks l.code l.bytes) (argued (regs_in l.vals l.i (l.n - l.i)))
-
-abbrev pub decreases-loop-i : goal.decreases-loop-i
-decreases-loop-i l = l.n - l.i

@@ -11,7 +11,7 @@ pub loop-i-init : goal.loop-i-init
 loop-i-init c = says_begin _ _ _ (λ p. let e : c.args.n - 0 ≡ c.args.n = omega arith in ap (λ (m : ℕ). stored (c.args.ptr % 256) 0 (regs_in c.args.vals.now 0 m) p) e)
 
 pub loop-i-preserved : goal.loop-i-preserved
-loop-i-preserved c = store_go _ _ _ _ _ _ _ c.loop-i.invariant c.loop-i-test.true c.at_word-s.ensures (rw c.wide-value.ensures.0 at c.emit-k.ensures) (c.emit-k.auto.code, c.emit-k.auto.bytes)
+loop-i-preserved c = store_go _ _ _ _ _ _ _ c.loop-i.invariant c.loop-i-test.true c.at_word-s.ensures (rw c.from-value.ensures at c.emit-k.ensures) (c.emit-k.auto.code, c.emit-k.auto.bytes)
 
 pub shape_of-code : goal.shape_of-code
 shape_of-code c = c.loop-i.invariant.room.0

@@ -17,4 +17,4 @@ pub loop-p-preserved : goal.loop-p-preserved
 loop-p-preserved c = (omega (arith, c.loop-p.invariant.0), omega arith, eight_more c.args.s.now c.args.from c.loop-p.p c.args.to c.loop-p.invariant.2 (c.fours_name.ensures c.if-fours_name.true))
 
 pub returns-then-fours_name-2 : goal.returns-then-fours_name-2
-returns-then-fours_name-2 c = sym (all_named c.args.s.now c.args.from c.args.to (omega arith) (last_eight c.args.s.now c.args.from c.loop-p.p c.args.to c.loop-p.invariant.2 c.least-q.result c.least-q.ensures (omega arith) (omega arith) (c.fours_name-2.ensures c.if-fours_name-2.true)))
+returns-then-fours_name-2 c = sym (all_named c.args.s.now c.args.from c.args.to (omega arith) (last_eight c.args.s.now c.args.from c.loop-p.p c.args.to c.loop-p.invariant.2 c.min-q.result c.min-q.ensures (omega arith) (omega arith) (c.fours_name-2.ensures c.if-fours_name-2.true)))

@@ -9,11 +9,11 @@ loop-p-init c = refl
 
 pub loop-p-preserved : goal.loop-p-preserved
 loop-p-preserved c = c.loop-p.invariant ∙ name_more c.args.s.now c.loop-p.p _ c.loop-p-test.true
-    (ap name_byte_lem (sym c.wide.ensures.0) ∙ sym c.name_byte.ensures ∙ c.if-name_byte.true)
+    (ap name_byte_lem (sym c.from.ensures) ∙ sym c.name_byte.ensures ∙ c.if-not-name_byte.false)
 
-pub returns-else-name_byte : goal.returns-else-name_byte
-returns-else-name_byte c = sym (c.loop-p.invariant ∙ name_stop c.args.s.now c.loop-p.p _ c.loop-p-test.true
-    (ap name_byte_lem (sym c.wide.ensures.0) ∙ sym c.name_byte.ensures ∙ c.if-name_byte.false))
+pub returns-then-not-name_byte : goal.returns-then-not-name_byte
+returns-then-not-name_byte c = sym (c.loop-p.invariant ∙ name_stop c.args.s.now c.loop-p.p _ c.loop-p-test.true
+    (ap name_byte_lem (sym c.from.ensures) ∙ sym c.name_byte.ensures ∙ c.if-not-name_byte.true))
 
 pub returns : goal.returns
 returns c = sym (c.loop-p.invariant ∙ name_end c.args.s.now c.loop-p.p _ c.loop-p-test.false)

@@ -6,6 +6,3 @@ use Rattle.image.proofs.read.each_name.Given as goal
 
 abbrev pub invariant-loop-p : goal.invariant-loop-p
 invariant-loop-p l = name_from l.s l.from (l.to - l.from) ≡ name_from l.s l.p (l.to - l.p)
-
-abbrev pub decreases-loop-p : goal.decreases-loop-p
-decreases-loop-p l = l.to - l.p

@@ -1,5 +1,5 @@
 -- `front::analysis` meets its contract: the fault of the check, or what follows.
-use mathlib.Core.Path.{◌∙◌, ap, sym}
+use mathlib.Core.Path.{ap, sym}
 use Rattle.rules.specs.Build.{passed}
 use Rattle.sema.proofs.Fronts.{faulted}
 use Rattle.sema.proofs.front.analysis.Goals as goal

@@ -5,7 +5,7 @@ use Rattle.sema.proofs.front.answer_of.Goals as goal
 
 pub returns-in-Ok : goal.returns-in-Ok
 unfolding judged_of analysis_answer
-returns-in-Ok c = λ img. rw c.in-Ok.is c.answer_at.ensures
+returns-in-Ok c = λ img. rw c.in-Ok.is c.of.ensures
 
 pub returns-in-Err : goal.returns-in-Err
 unfolding judged_of analysis_answer

@@ -1,7 +1,0 @@
--- `lay_byte` meets its contract.
-use mathlib.Core.Path.{sym}
-use lib.Seq.{set_out}
-use Rattle.lent.proofs.lay_byte.Goals as goal
-
-pub returns-else-i-s : goal.returns-else-i-s
-returns-else-i-s c = sym (set_out _ _ _ c.if-i-s.false)

@@ -1,9 +1,0 @@
--- `replay::hashed_word` ends, and stays in bounds.
-use Prim.Native.Nat.{◌-◌, ◌≤◌}
-use Rattle.replay.proofs.hashed_word.Given as goal
-
-abbrev pub invariant-loop-i : goal.invariant-loop-i
-invariant-loop-i l = l.i ≤ 8
-
-abbrev pub decreases-loop-i : goal.decreases-loop-i
-decreases-loop-i l = 8 - l.i
