@@ -16,14 +16,15 @@ fn put_byte(out: &mut [u8], n: usize, b: u8) -> usize
     n + 1
 }
 
-// A piece.
+// A piece. Not by `copy_from_slice`, with which the archive for C needs `memmove` from outside.
 pub fn put(out: &mut [u8], n: usize, s: &[u8]) -> usize
     requires { n + length s.now ≤ length out.old }
     ensures { Lays n s.now out.old out.new result }
 {
-    let end = n + s.len();
-    out[n..end].copy_from_slice(s);
-    end
+    for i in 0..s.len() {
+        out[n + i] = s[i];
+    }
+    n + s.len()
 }
 
 // A number in decimal, so many digits at most.
